@@ -1,16 +1,20 @@
 -- What a walk keeps that follows black cells one after another, whichever cells it leaves out.
-use Rattle.std.proofs.Common.{◌≡◌, ◌⊎◌, ◌+◌, ◌*◌, ◌<◌, ◌≤◌, ◌-◌, ℕ, inl, inr, sym, ap, ◌∙◌, subst, arith, Contains}
-use Rattle.std.proofs.Common.{List, length, Option, Some, None, slice_get}
-use Rattle.std.proofs.lemmas.Bool.{cases_lt}
+use Rattle.std.proofs.Common.{◌≡◌, ◌≢◌, ◌⊎◌, ◌+◌, ◌*◌, ◌<◌, ◌≤◌, ◌-◌, ℕ, inl, inr, sym, ap, ◌∙◌, subst, arith, Contains}
+use Rattle.std.proofs.Common.{List, length, Option, Some, None, slice_get, true}
+use Rattle.std.specs.Option.{option_map}
+use Rattle.std.proofs.lemmas.Bool.{cases_eq, cases_lt}
 use Rattle.std.proofs.lemmas.Bool.Decides.{eqb_tells}
 use Rattle.std.proofs.lemmas.Option.{slice_get_within}
+use Rattle.gz_names.specs.declared.commands.Kind.TheVariants as kind
 use Rattle.gz_names.specs.declared.numbers.Place.{Place}
+use Rattle.arena_table.specs.Cells.{CellState}
 use Rattle.mark_stack.specs.Stack.{Piles, IsPushed}
 use Rattle.mark_stack.specs.declared.stack.Pile.TheVariants as pile
 use Rattle.mark_stack.proofs.Pushed.{black_wake, more_length}
 use Rattle.weak_maps.specs.declared.entries.WeakEntry.{WeakEntry}
 use Rattle.weak_maps.specs.WeakMaps.{IsSound}
-use Rattle.heap_core.specs.Shape.{HasEdge, IsPresent, Shape, field_at}
+use Rattle.heap_core.specs.Shape.{HasEdge, IsPresent, Shape, cell_of, field_at, is_marking, is_marking_state, state_in}
+use Rattle.heap_core.specs.Shape.{zone_of}
 use Rattle.heap_core.specs.Heap.{HeapState}
 use Rattle.barriers.specs.declared.parts.Part.{Part}
 use Rattle.barriers.specs.declared.parts.Part.TheVariants as part
@@ -21,6 +25,15 @@ use Rattle.barriers.specs.Parts.{IsPart, listed_of}
 use Rattle.barriers.specs.Spreading.{Blackens, Grows, Spreads}
 use Rattle.barriers.proofs.Listed.{entry, in_part, of_part, past_the_last, stands_at, stood_at}
 use Rattle.barriers.proofs.Spreading.{grows_more, shape_is, spreads_more, spreads_pop}
+
+-- what a cell leads to that is no wrapper lies in its zone, so it is marking if that is
+pub marking_target : (s : Shape) (x y : Place) (i : ℕ) → ShapeInvariant s
+    → option_map (λ (c : CellState). c.kind) (cell_of s x) ≢ Some kind.Wrapper → is_marking s x ≡ true → i < 8
+    → field_at s x i ≡ Some y → is_marking s y ≡ true
+marking_target s x y i inv inside on below at = elim (cases_eq (zone_of s x) (zone_of s y)) [
+  | inl same ↦ ap (λ z. is_marking_state (state_in s z)) (sym same) ∙ on
+  | inr apart ↦ absurd (inside (inv.across x y i below at apart).0)
+]
 
 -- a walk: what holds while it goes on, what it may turn black, and when an entry was followed. What it may turn black
 -- later it may turn black now, and an entry that was followed stays so

@@ -7,7 +7,7 @@ ghost use Rattle.barriers.specs.Invariant.{MarkingInvariant};
 ghost use Rattle.barriers.specs.Spreading.{Covers};
 ghost use Rattle.marker.specs.Units.{FollowsBlack};
 
-use barriers::{drain, next_pending, scan};
+use barriers::{drain, next_pending, scan_marking};
 use cell_bits::Flight;
 use heap_core::{Heap, Steps};
 use mark_stack::{Pile, Stack};
@@ -41,7 +41,7 @@ pub fn black_unit<F: Flight, L: Ledger>(
         return false;
     };
     heap.start(MarkColour::Black, place);
-    scan(heap, stack, flight, place, steps);
+    scan_marking(heap, stack, flight, place, steps);
     drain(heap, stack, flight, steps);
     true
 }

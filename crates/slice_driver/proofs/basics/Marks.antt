@@ -81,8 +81,9 @@ module _ (h k : HeapState) (same : HasSameMarks h k) where
         (sym same.cells.comps)
         (s.at_home x cell (sym (same.cells.cells x) ∙ e) ∙ ap (λ z. Some z) (sym (same.cells.zones x)));
     targets = λ x y e. present_on h k same.cells y (s.targets x y (edge_back h k same.cells x y e));
-    across = λ x y f lt e n. s.across x y f lt (sym (field_same h k same.cells x f) ∙ e)
-        (λ z. n (same.cells.zones x ∙ z ∙ sym (same.cells.zones y)));
+    across = λ x y f lt e n. delegate_on h k same.cells x y
+        (s.across x y f lt (sym (field_same h k same.cells x f) ∙ e)
+        (λ z. n (same.cells.zones x ∙ z ∙ sym (same.cells.zones y))));
     entries = λ m q v e. (let there = s.entries m q v (entry_back h k same.cells m q v e) in (
       present_on h k same.cells m there.0,
       present_on h k same.cells q there.1,

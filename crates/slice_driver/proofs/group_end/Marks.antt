@@ -1,6 +1,6 @@
 -- After the end of a group what holds of marking goes on to hold, and as much is left to mark.
 use Rattle.std.proofs.Common.{◌≡◌, ◌≢◌, ◌⊎◌, ◌↔◌, ◌<◌, ◌≤◌, ◌+◌, ◌*◌, ℕ, Bool, true, false, cond, inl, inr, refl, sym}
-use Rattle.std.proofs.Common.{ap, ◌∙◌, subst, arith, Option, None, Some, List, [], length, Contains, slice_get}
+use Rattle.std.proofs.Common.{ap, ◌∙◌, subst, arith, None, Some, List, [], length, Contains, slice_get}
 use Rattle.std.specs.Option.{option_map}
 use Rattle.gz_names.specs.Zones.{HasZone}
 use Rattle.gz_names.specs.declared.numbers.Place.{Place}
@@ -12,7 +12,7 @@ use Rattle.roots.specs.Buffers.{buffer_at}
 use Rattle.gray_lists.specs.Incoming.{waiting_count}
 use Rattle.colour_defs.specs.World.{World}
 use Rattle.colour_defs.proofs.Lists.{both_of, first_of_both, second_of_both}
-use Rattle.heap_core.specs.Shape.{ArenaShape, HasEdge, IsDelegate, IsPresent, cell_of, field_at, field_in, is_marking}
+use Rattle.heap_core.specs.Shape.{ArenaShape, HasEdge, IsDelegate, IsPresent, field_at, field_in, is_marking}
 use Rattle.heap_core.specs.Shape.{is_marking_state, is_white, out_of, state_in, zone_of}
 use Rattle.heap_core.specs.Heap.{HeapState, colour_in, colour_of}
 use Rattle.barriers.specs.Reached.{Reached, HasEntry}
@@ -179,16 +179,13 @@ module _ (c : CollectorState) (w : World) (n : HeapState) (end : Ending c w n) w
   }
     where
       across : (x y : Place) (f : ℕ) → f < 8 → field_at n.shape x f ≡ Some y → zone_of n.shape x ≢ zone_of n.shape y
-          → f ≡ 0
-      across x y f lt held apart = go (cell_of n.shape x) refl held
-        where
-          go : (o : Option CellState) → cell_of n.shape x ≡ o → field_in o f ≡ Some y → f ≡ 0
-          go None there h = absurd (cc h)
-          go (Some cell) there h =
-              was.holds.colours.shape.across x y f lt
-              (ap (λ o. field_in o f) (cell_back c w n end x cell there).0
-              ∙ h)
-              (λ z. apart (zone_same x ∙ z ∙ sym (zone_same y)))
+          → IsDelegate n.shape x y
+      across x y f lt held apart =
+          let old = edge_was x y (f, lt, held) in
+          delegate_stays x y
+          (was.holds.colours.shape.across x y old.0.0 old.0.1 old.0.2
+          (λ z. apart (zone_same x ∙ z ∙ sym (zone_same y))))
+          old.1
 
       kept : (x : Place) (t : Bool) → in_zones g.bits (zone_of c.heap.shape x) ≡ t → is_marking n.shape x ≡ true
           → out_of n.shape x.0 ≡ None

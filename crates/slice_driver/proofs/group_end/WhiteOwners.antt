@@ -4,9 +4,7 @@ use Rattle.std.proofs.Common.{Some, is_none, is_some, List, [], ◌∷◌, lengt
 use Rattle.std.proofs.Common.{subst, arith}
 use Rattle.gz_names.specs.declared.numbers.Place.{Place}
 use Rattle.gz_names.specs.declared.zone_sets.ZoneSet.{ZoneSet}
-use Rattle.cell_bits.specs.Colours as bits
 use Rattle.cell_bits.specs.declared.bits.Bits.{Bits}
-use Rattle.cell_bits.specs.declared.bits.Colour.TheVariants as colour
 use Rattle.cell_bits.specs.declared.jobs.Job.{Job}
 use Rattle.arena_table.specs.Cells.{CellState}
 use Rattle.arena_table.specs.Indexed.{in_zones}

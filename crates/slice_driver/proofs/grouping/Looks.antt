@@ -18,7 +18,7 @@ use Rattle.colour_defs.specs.Laws.{IsMarking, IsValid}
 use Rattle.colour_defs.specs.World.{World, Collection, Has, BlackClosure}
 use Rattle.colour_defs.proofs.Carried.{reached_more}
 use Rattle.colour_defs.proofs.ZoneSets.{zones_in-has}
-use Rattle.heap_core.specs.Shape.{IsDelegate, cell_of, field_at, field_in, is_marking, is_marking_state, name_at}
+use Rattle.heap_core.specs.Shape.{IsDelegate, cell_of, field_in, is_marking, is_marking_state, name_at}
 use Rattle.heap_core.specs.Shape.{out_of, zone_of}
 use Rattle.heap_core.specs.Heap.{HeapState, joined as with_flown_bits}
 use Rattle.heap_core.specs.Shows.{StandsFor, is_wrapper}
@@ -229,13 +229,10 @@ module _ (c d : CollectorState) (l : LooksIn c d) where
         | inr is ↦ elim (black_or_not c.heap q) [
           | inl b ↦ inl b
           | inr pale ↦
-              let zero_is : across.edge.0 ≡ 0 = inv.holds.colours.shape.across p q across.edge.0 across.edge.1
-              across.edge.2 across.apart in
-              let held : field_at c.heap.shape p 0 ≡ Some q = ap (field_at c.heap.shape p) (sym zero_is)
-              ∙ across.edge.2 in
+              let wraps = inv.holds.colours.shape.across p q across.edge.0 across.edge.1 across.edge.2 across.apart in
               let leads : LeadsFrom c.heap c.edges.zones p (zone_of c.heap.shape p) (zone_of c.heap.shape q) = record {
                 target = q;
-                target_is = held;
+                target_is = wraps.1;
                 from = refl;
                 to = refl;
                 has_from = subst (λ (y : ZoneSet). HasZone y.bits (zone_of c.heap.shape p)) (sym was.zones_are)

@@ -6,7 +6,6 @@ use Rattle.gz_names.specs.declared.names.Name.{Name}
 use Rattle.gz_names.specs.declared.commands.WeakCmd.{WeakCmd}
 use Rattle.gz_names.specs.declared.commands.WeakCmd.TheVariants as cmd
 use Rattle.gz_names.specs.declared.replies.CmdFault.{CmdFault}
-use Rattle.gz_names.specs.declared.replies.CmdFault.TheVariants as fault
 use Rattle.gz_names.specs.declared.replies.Reply.{Reply}
 use Rattle.gz_names.specs.declared.replies.Reply.TheVariants as reply
 use Rattle.cell_bits.specs.declared.bits.Bits.{Bits}

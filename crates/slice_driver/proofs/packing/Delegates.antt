@@ -85,7 +85,7 @@ module _ (h new : HeapState) (w : World) (packed : Packed h new w) where
       by None = refl
       by (Some cell) = refl
 
-  delegate_went : (b e : Place) → IsPresent h.shape b → IsDelegate h.shape b e
+  pub delegate_went : (b e : Place) → IsPresent h.shape b → IsDelegate h.shape b e
       → IsDelegate new.shape (moved packed.moves b) (moved packed.moves e)
   delegate_went b e there is = (
     same_kind b there ∙ is.0,

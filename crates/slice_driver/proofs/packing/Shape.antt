@@ -9,9 +9,9 @@ use Rattle.arena_table.specs.Cells.{CellState}
 use Rattle.arena_table.specs.Moving.{forwarded}
 use Rattle.colour_defs.specs.World.{World}
 use Rattle.heap_core.specs.Heap.{HeapState}
-use Rattle.heap_core.specs.Shape.{IsPresent, cell_of, field_at, field_in, zone_of}
+use Rattle.heap_core.specs.Shape.{IsDelegate, IsPresent, cell_of, field_at, field_in, zone_of}
 use Rattle.barriers.specs.Invariant.{ShapeInvariant}
-use Rattle.slice_driver.proofs.packing.Delegates.{delegates_after}
+use Rattle.slice_driver.proofs.packing.Delegates.{delegate_went, delegates_after}
 use Rattle.slice_driver.proofs.packing.Entries.{entry_came, zone_came}
 use Rattle.slice_driver.proofs.packing.Fields.{field_came}
 use Rattle.slice_driver.proofs.packing.NamedWeakly.{went_there}
@@ -65,8 +65,11 @@ module _ (h new : HeapState) (w : World) (packed : Packed h new w) where
         subst (IsPresent new.shape) from.5 (went from.1 (packed.shape.targets from.0 from.1 (e.0, e.1, from.3)));
     across = λ x y f lt e apart.
         let from = field_came h new w packed x y f (field_present new x y f e) e in
-        packed.shape.across from.0 from.1 f lt from.3 (λ same. apart (came_zone x from.0 from.2 from.4
-        ∙ (same ∙ sym (came_zone y from.1 (packed.shape.targets from.0 from.1 (f, lt, from.3)) from.5))));
+        let was = packed.shape.across from.0 from.1 f lt from.3 (λ same. apart (came_zone x from.0 from.2 from.4
+        ∙ (same ∙ sym (came_zone y from.1 (packed.shape.targets from.0 from.1 (f, lt, from.3)) from.5)))) in
+        subst (λ (z : Place). IsDelegate new.shape z y) from.4
+        (subst (λ (z : Place). IsDelegate new.shape (moved packed.moves from.0) z) from.5
+        (delegate_went h new w packed from.0 from.1 from.2 was));
     entries = λ m k v e. (packed.relocates.shows packed.lies.graph packed.lies.shown).entries_held m k v e;
     one_zone = λ m k v e.
         let from = entry_came h new w packed m k v e in

@@ -1,4 +1,4 @@
-use Rattle.std.proofs.Common.{◌<◌, sym, subst, length}
+use Rattle.std.proofs.Common.{◌<◌, sym, subst}
 use Rattle.heap_core.proofs.Places.{present_within}
 use Rattle.barriers.proofs.left_out.is_black.Goals as goal
 

@@ -20,34 +20,38 @@ started g c = started_by c.args.heap.now c.next_pending.new.heap c.start.new.sel
       parallel = c.start.ensures.parallel;
     })
 
-pub scan-requires-clause-black : goal.scan-requires-clause-black
-scan-requires-clause-black g c =
-    (started_taken _ _ _ _ _ (started g (goal.at.scan-requires-clause-black g c).After-start)).black
+pub scan_marking-requires-clause-black : goal.scan_marking-requires-clause-black
+scan_marking-requires-clause-black g c =
+    (started_taken _ _ _ _ _ (started g (goal.at.scan_marking-requires-clause-black g c).After-start)).black
 
-pub scan-requires-clause-holds : goal.scan-requires-clause-holds
-scan-requires-clause-holds g c = (
+pub scan_marking-requires-clause-holds : goal.scan_marking-requires-clause-holds
+scan_marking-requires-clause-holds g c = (
   c.in-Some.place ∷ [],
-  (started_taken _ _ _ _ _ (started g (goal.at.scan-requires-clause-holds g c).After-start)).invariant,
+  (started_taken _ _ _ _ _ (started g (goal.at.scan_marking-requires-clause-holds g c).After-start)).invariant,
 )
 
-pub scan-requires-clause-counted : goal.scan-requires-clause-counted
-scan-requires-clause-counted g c =
-    let s = started g (goal.at.scan-requires-clause-counted g c).After-start in
+pub scan_marking-requires-clause-counted : goal.scan_marking-requires-clause-counted
+scan_marking-requires-clause-counted g c =
+    let s = started g (goal.at.scan_marking-requires-clause-counted g c).After-start in
     ap (λ (z : HeapState). z.ledger) s.rest ∙ c.requires.counted
+
+pub scan_marking-requires-clause-marking : goal.scan_marking-requires-clause-marking
+scan_marking-requires-clause-marking g c =
+    (started_taken _ _ _ _ _ (started g (goal.at.scan_marking-requires-clause-marking g c).After-start)).zone
 
 pub drain-requires : goal.drain-requires
 drain-requires g c =
     let s = started g (goal.at.drain-requires g c).After-start in
-    let k = joined c.scan.new.heap (g.F.Flight.bits c.scan.new.flight) in
-    let r = pending c.scan.new.heap c.scan.new.stack in
-    let did = c.scan.ensures.follows (c.in-Some.place ∷ []) (started_taken _ _ _ _ _ s).invariant in
+    let k = joined c.scan_marking.new.heap (g.F.Flight.bits c.scan_marking.new.flight) in
+    let r = pending c.scan_marking.new.heap c.scan_marking.new.stack in
+    let did = c.scan_marking.ensures.follows (c.in-Some.place ∷ []) (started_taken _ _ _ _ _ s).invariant in
     let grows = did.grows in
     record {
       counted = ap (λ (z : HeapState). z.ledger) grows.spreads.blackens.rest
           ∙ (ap (λ (z : HeapState). z.ledger) s.rest ∙ c.requires.counted);
       covers = did.covers;
       holds = scanned _ _ _ _ k r (started_marks _ _ _ _ _ s).holds s.popped did.holds grows
-          c.scan.ensures.edges (started_left _ _ _ _ _ s k r grows);
+          c.scan_marking.ensures.edges (started_left _ _ _ _ _ s k r grows);
       weak = started_point _ _ _ _ _ s k r grows;
       once = started_once _ _ _ _ _ s k r grows;
     }
@@ -55,9 +59,9 @@ drain-requires g c =
 pub returns : goal.returns
 returns g c =
     let s = started g (goal.at.returns g c).After-start in
-    let one = c.scan.ensures.follows (c.in-Some.place ∷ []) (started_taken _ _ _ _ _ s).invariant in
-    let k = joined c.scan.new.heap (g.F.Flight.bits c.scan.new.flight) in
-    let r = pending c.scan.new.heap c.scan.new.stack in
+    let one = c.scan_marking.ensures.follows (c.in-Some.place ∷ []) (started_taken _ _ _ _ _ s).invariant in
+    let k = joined c.scan_marking.new.heap (g.F.Flight.bits c.scan_marking.new.flight) in
+    let r = pending c.scan_marking.new.heap c.scan_marking.new.stack in
     record {
       does = λ did. black_done _ _ _ _ _ s k r (joined c.drain.new.heap (g.F.Flight.bits c.drain.new.flight))
           (pending c.drain.new.heap c.drain.new.stack) one.grows c.drain.ensures.spreads
@@ -70,7 +74,7 @@ returns g c =
       same = λ e. cc e;
       steps = omega (
         arith,
-        c.scan.ensures.few,
+        c.scan_marking.ensures.few,
         c.drain.ensures.steps,
         started_grays _ _ _ _ _ s k r one.grows,
       );
