@@ -2,6 +2,7 @@ pub mod Members
 pub mod BlackBits
 pub mod WonCells
 pub mod AllStarted
+pub mod NoEntries
 pub mod PresentCells
 pub mod AllFollowed
 pub mod MarkingArenas

@@ -13,7 +13,7 @@ use Rattle.gz_names.specs.declared.numbers.Place.{Place}
 use Rattle.cell_bits.specs.declared.bits.Bits.{Bits}
 use Rattle.mark_stack.specs.Stack.{Piles}
 use Rattle.mark_words.specs.Rule.{bit_of}
-use Rattle.weak_maps.specs.WeakMaps.{LooksState}
+use Rattle.weak_maps.specs.WeakMaps.{AreParallel, IsSound, LooksState}
 use Rattle.heap_core.specs.Shape.{AreWhole, HasEdge, IsPresent, Shape, field_at, is_marking, out_of}
 use Rattle.heap_core.specs.Heap.{HeapState, colour_in, colour_of, flown_or, joined}
 use Rattle.barriers.specs.Colours.{IsBlack, grays_outside}
@@ -29,6 +29,7 @@ use Rattle.mark_ahead.specs.Ahead.{FollowsAll, IsMarkedBlack, PopsAll, StartsAll
 use Rattle.mark_ahead.specs.Blackening.{HasBlackened}
 use Rattle.mark_ahead.proofs.AllFollowed.{Exposed, Found, Won, follows_all, started, won_by}
 use Rattle.mark_ahead.proofs.AllStarted.{AllStarted, all_there, pops_there, pops_twice, starts_pop}
+use Rattle.mark_ahead.proofs.NoEntries.{others_started, popped_sound}
 use Rattle.mark_ahead.proofs.PresentCells.{present_inside}
 use Rattle.marker.proofs.Starting.{Stands}
 use Rattle.mark_ahead.proofs.WonCells.{with_pending}
@@ -98,14 +99,15 @@ outside_present s targets first last from won outside marked =
     All-weaker (Contains outside) (IsPresent s) (λ x c.
     let (off, (y, side, e)) = (marked.outside_is x).0 c in targets y x e) outside (All-contains_itself outside)
 
--- what marking began from and found, and the heap, the bits in flight and the piles after each step: as all was
--- pending (h, f, p), as what lies outside was exposed (k, g, q), as the arenas took the words (l), as the cells that
--- were won were started (m), and as those that were pending were, too (n, u)
+-- what marking began from, found and listed, and the heap, the bits in flight and the piles after each step: as all
+-- was pending (h, f, p), as what lies outside was exposed (k, g, q), as the arenas took the words (l), as the listed
+-- cells were started (m), and as those that were pending were, too (n, u)
 pub record Moments : Type 0 where
   pub first : List ℕ
   pub last : List ℕ
   pub from : List Place
   pub won : List Place
+  pub listed : List Place
   pub outside : List Place
   pub h : HeapState
   pub f : ℕ → Option Bits
@@ -127,11 +129,12 @@ pub record Steps (t : Moments) : Type 0 where
   pub cells : (x : Place) → Contains t.from x ↔ ((x.1 < 64) × IsMarkedBlack t.h x)
   pub words : t.first ≡ map (λ (bits : Bits). bits.black) t.h.colours
   pub marked : HasBlackened (field_at t.h.shape) (is_marking t.h.shape) t.first t.from t.last t.won t.outside
+  pub listed_won : 0 < length t.h.shape.weak.entries → t.listed ≡ t.won
   pub exposed : Exposed t.outside (joined t.h t.f) (pending t.h t.p) (joined t.k t.g) (pending t.k t.q)
   pub still_covers : Covers t.k.shape t.g
   pub takes : TakesWords t.last t.k t.l
   pub looks : t.m ≡ record t.l { looks = t.m.looks }
-  pub starts : StartsAll t.l t.won t.l.looks t.m.looks
+  pub starts : StartsAll t.l t.listed t.l.looks t.m.looks
   pub pops : StartsPending t.m t.q t.n t.u
 
 -- a list that has cells has a first one
@@ -247,15 +250,6 @@ module _ (ts : Moments) (st : Steps ts) where
   same_pending = pending_same k m q (ap (λ (z : HeapState). z.delayed) st.looks
       ∙ ap (λ (z : HeapState). z.delayed) st.takes.rest)
 
-  all_pops : PopsAll there (won ++ st.pops.cells) l.looks piled n.looks (pending n u)
-  all_pops =
-      let second = subst (λ (z : Piles). PopsAll there st.pops.cells m.looks z n.looks (pending n u)) same_pending
-      (pops_there m there st.pops.cells m.looks n.looks (pending m q) (pending n u)
-      (sym (ap (λ (z : HeapState). z.shape) st.looks)) st.pops.pops) in
-      pops_twice there won st.pops.cells l.looks m.looks n.looks piled (pending k q) (pending n u)
-      (starts_pop there won l.looks m.looks (pending k q)
-      (all_there l there won l.looks m.looks refl st.starts)) second
-
   -- some cell was pending, so some were popped
   popped_some : st.pops.cells ≢ []
   popped_some none = go (pending h p).black refl
@@ -273,6 +267,31 @@ module _ (ts : Moments) (st : Steps ts) where
           subst (λ (ys : List Place). Contains ys x) (sym e) (0, omega arith, refl) in
           nothing_in_none x (subst (λ (ys : List Place). Contains ys x) (sym left ∙ st.pops.empty)
           (st.exposed.grows.spreads.pile_kept x was))
+
+  -- the cells that were won were started, listed or not: without weak entries that changes nothing
+  starts_won : StartsAll l won l.looks m.looks
+  starts_won =
+      let same : l.shape ≡ h.shape = ap (λ (z : HeapState). z.shape) st.takes.rest ∙ shape_is in
+      let entries = ap (λ (s : Shape). length s.weak.entries) same in
+      elim (cases_lt 0 (length l.shape.weak.entries)) [
+        | inl some ↦ subst (λ (xs : List Place). StartsAll l xs l.looks m.looks)
+            (st.listed_won (omega (arith, some, entries))) st.starts
+        | inr few ↦ (let there = ap (λ (z : HeapState). z.shape) st.looks in
+            let popped = popped_sound m st.pops.cells m.looks n.looks (pending m q) (pending n u) st.pops.pops
+            popped_some in
+            others_started l (subst (λ (s : Shape). IsSound s.weak) there popped.0) (omega (arith, few)) ts.listed won
+            l.looks m.looks st.starts
+            (subst (λ (s : Shape). AreParallel (record { table = s.weak; looks = m.looks })) there popped.1))
+      ]
+
+  all_pops : PopsAll there (won ++ st.pops.cells) l.looks piled n.looks (pending n u)
+  all_pops =
+      let second = subst (λ (z : Piles). PopsAll there st.pops.cells m.looks z n.looks (pending n u)) same_pending
+      (pops_there m there st.pops.cells m.looks n.looks (pending m q) (pending n u)
+      (sym (ap (λ (z : HeapState). z.shape) st.looks)) st.pops.pops) in
+      pops_twice there won st.pops.cells l.looks m.looks n.looks piled (pending k q) (pending n u)
+      (starts_pop there won l.looks m.looks (pending k q)
+      (all_there l there won l.looks m.looks refl starts_won)) second
 
   begun : (x : Place) × (rest : List Place) × (won ++ st.pops.cells ≡ x ∷ rest)
   begun = first_of won st.pops.cells popped_some

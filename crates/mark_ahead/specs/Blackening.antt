@@ -25,3 +25,10 @@ module _ (edge : ℕ × ℕ → ℕ → Option (ℕ × ℕ)) (marking : ℕ × �
     -- and as often as they are targets
     pub outside_times : (q : ℕ × ℕ) → marking q ≡ false
         → times q outside ≡ weigh (out edge (only q)) from + weigh (out edge (only q)) won
+
+  -- the words after marking, and what it found: the cells that turned black, if these are to be listed, and the targets
+  -- outside the marking zones
+  pub record HasFound (is_listed : Type 0) (last : List ℕ) (listed outside : List (ℕ × ℕ)) : Type 0 where
+    pub won : List (ℕ × ℕ)
+    pub blackened : HasBlackened last won outside
+    pub listed_won : is_listed → listed ≡ won

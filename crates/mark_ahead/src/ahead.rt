@@ -2,7 +2,7 @@
 ghost use Rattle.std.specs.Prelude.{◌≡◌, ◌≢◌, ◌↔◌, ◌<◌, ◌≤◌, ◌+◌, ◌*◌, [], ℕ, Some, Ok, false, true, length};
 ghost use Rattle.std.specs.Prelude.{All, Contains, IfOk, OnErr};
 ghost use Rattle.gz_names.specs.declared.numbers.Place.{Place as APlace};
-ghost use Rattle.heap_core.specs.Shape.{AreWhole, HasEdge, IsPresent, field_at, is_marking, zone_of};
+ghost use Rattle.heap_core.specs.Shape.{AreWhole, HasEdge, IsPresent, zone_of};
 ghost use Rattle.heap_core.specs.Heap.{joined};
 ghost use Rattle.barriers.specs.Pending.{pending};
 ghost use Rattle.barriers.specs.Colours.{IsBlack, grays_outside};
@@ -10,8 +10,7 @@ ghost use Rattle.barriers.specs.Following.{FollowsWhile, IsFollowing};
 ghost use Rattle.barriers.specs.Invariant.{MarkingInvariant};
 ghost use Rattle.barriers.specs.Spreading.{Covers};
 ghost use Rattle.mark_ahead.specs.Ahead.{FollowsAll, StartsAll, StartsPending};
-ghost use Rattle.mark_ahead.specs.Blackening.{HasBlackened};
-ghost use Rattle.mark_ahead.specs.Markers.{MarksBlack};
+ghost use Rattle.mark_ahead.specs.Markers.{HasFoundIn, MarksBlack};
 
 use crate::black_words::{black_cells, black_words, take_words};
 use crate::blackening::Marked;
@@ -30,7 +29,7 @@ use weak_maps::MarkColour;
 /// done. `NoMemory` comes before any step.
 ///
 /// `mark` takes the cells to begin from and the black word of each arena, and answers the words as marking leaves them
-/// with what it found.
+/// with what it found. In a heap without weak entries it need not list the cells that turned black.
 pub fn mark_ahead<
     M: Fn(Global, &Heap, &[Place], Vec<u64>) -> Result<(Vec<u64>, Marked), NoMemory>,
     F: Flight,
@@ -90,8 +89,7 @@ fn mark_uncounted<M: Fn(Global, &Heap, &[Place], Vec<u64>) -> Result<(Vec<u64>, 
     requires whole { AreWhole heap.old.shape.arenas }
     requires words { length words.items ≡ length heap.old.shape.arenas }
     ensures same { heap.new ≡ heap.old }
-    ensures blackened { IfOk result (λ r. HasBlackened (field_at heap.old.shape) (is_marking heap.old.shape)
-        words.items from.now r.0.items r.1.won.items r.1.outside.items) }
+    ensures found { IfOk result (λ r. HasFoundIn heap.old words.items from.now r.0.items r.1) }
 {
     let counted_in = heap.uncount_edges();
     let found = mark(alloc, heap, from, words);

@@ -8,7 +8,8 @@
 //
 //     found                             what is left to do
 //     cells that turned black           their edges lead to black cells: they go on no pile, but
-//                                       their weak entries are to be looked at
+//                                       their weak entries are to be looked at; in a heap without
+//                                       weak entries these cells need not be listed
 //     targets outside marking zones     they are exposed, as where a barrier finds one
 //     cells that were on the pile       the same as those that turned black: they leave the pile
 //

@@ -38,6 +38,7 @@ struct Registers {
     child: Reg,
     far: Reg,
     wrapper: Reg,
+    map: Reg,
 }
 
 impl Registers {
@@ -47,12 +48,13 @@ impl Registers {
             child: Reg::new(1)?,
             far: Reg::new(2)?,
             wrapper: Reg::new(3)?,
+            map: Reg::new(4)?,
         })
     }
 }
 
-// What marking leaves: how many cells are black, how many it turned black, how many targets lie outside,
-// and the first of these.
+// What marking leaves: how many cells are black, how many are listed as turned black, how many targets lie
+// outside, and the first of these.
 #[derive(Clone, Copy, Debug, PartialEq, Eq)]
 struct Found {
     black: u32,
@@ -125,6 +127,12 @@ impl TestHeap {
         self.step(&GraphCmd::Wrap(regs.wrapper, regs.far, CompNo(0)))?;
         self.step(&GraphCmd::Set(regs.root, 1, Some(regs.wrapper)))?;
         self.step(&GraphCmd::New(regs.child, CompNo(0), 0))
+    }
+
+    // Makes a weak map that nothing names, with an entry for the root.
+    fn add_entry(&mut self, regs: &Registers) -> Result<(), Fail> {
+        self.step(&GraphCmd::Map(regs.map, CompNo(0)))?;
+        self.step(&GraphCmd::Put(regs.map, regs.root, regs.child))
     }
 
     // Makes two zones, with a ring in the first.
@@ -207,7 +215,8 @@ fn mark_in<R: Threads + Wait + Sync>(
 #[test]
 fn a_heap_is_marked_as_far_as_its_zone_goes(rt: HostRuntime) -> Result<(), Fail> {
     let regs = Registers::first().ok_or("registers")?;
-    let heap = TestHeap::build(rt.alloc(), &regs)?;
+    let mut heap = TestHeap::build(rt.alloc(), &regs)?;
+    heap.add_entry(&regs)?;
     let far = heap.reg(regs.far);
     let found = heap.find(&rt, rt.alloc(), regs.root)?;
     let wanted = Found {
@@ -217,5 +226,18 @@ fn a_heap_is_marked_as_far_as_its_zone_goes(rt: HostRuntime) -> Result<(), Fail>
         first: far,
     };
     assert_eq!(rt; found, wanted, "the ring and the wrapper");
+    Ok(())
+}
+
+#[test]
+fn without_weak_entries_no_cell_is_listed(rt: HostRuntime) -> Result<(), Fail> {
+    let regs = Registers::first().ok_or("registers")?;
+    let heap = TestHeap::build(rt.alloc(), &regs)?;
+    let found = heap.find(&rt, rt.alloc(), regs.root)?;
+    assert_eq!(rt;
+        (found.black, found.won),
+        (3, 0),
+        "the ring and the wrapper are black"
+    );
     Ok(())
 }

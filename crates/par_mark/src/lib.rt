@@ -68,9 +68,10 @@
 // `Graph` is what marking reads of a heap, so that the proof, and a test, can do without one. `mark`
 // works on marks and a queue, `mark_black` takes black words and answers them, and `mark_heap` does so
 // for the heap. The callers' lists are reserved before the first step, with room for as many tries as there
-// can be edges, 512 an arena; memory that is reserved and not used takes addresses alone. `mark_black` lists
-// the cells that turned black at the end; if there is no memory for that, nothing has changed. Each caller's
-// list of tries stands in a `CachePadded`, so that one caller's pushes don't slow down the other's.
+// can be edges, 512 an arena; memory that is reserved and not used takes addresses alone. At the end
+// `mark_black` lists the cells that turned black, if it is to; if there is no memory for that, nothing has
+// changed. `mark_heap` has them listed if the heap has weak entries. Each caller's list of tries stands in a
+// `CachePadded`, so that one caller's pushes don't slow down the other's.
 #![tactic(auto)]
 
 mod caller;

@@ -1,7 +1,7 @@
 // Marking a heap.
-ghost use Rattle.std.specs.Prelude.{◌≡◌, ◌<◌, ℕ, length, All, IfOk, None};
-ghost use Rattle.heap_core.specs.Shape.{AreWhole, HasEdge, IsPresent, field_at, is_marking, zone_of};
-ghost use Rattle.mark_ahead.specs.Blackening.{HasBlackened};
+ghost use Rattle.std.specs.Prelude.{◌≡◌, ◌<◌, [], ℕ, length, All, IfOk, None};
+ghost use Rattle.heap_core.specs.Shape.{AreWhole, HasEdge, IsPresent, zone_of};
+ghost use Rattle.mark_ahead.specs.Markers.{HasFoundIn};
 
 use crate::heap::MarkedHeap;
 use crate::over_words::mark_black;
@@ -15,8 +15,9 @@ use std::thread::Threads;
 
 /// Marks black, by two callers, the cells of marking zones that edges of a heap reach from these cells,
 /// through cells of marking zones that are not black. It takes the black word of each arena, and answers
-/// the black word of each arena as marking leaves it, with the cells that turned black and the targets
-/// outside the marking zones. The heap does not change.
+/// the black word of each arena as marking leaves it, with the targets outside the marking zones and, if
+/// the heap has weak entries, the cells that turned black; else that list is empty. The heap does not
+/// change.
 pub fn mark_heap<R: Threads + Wait + Sync, G: Gate + Sync>(
     rt: &R,
     alloc: Global,
@@ -31,9 +32,9 @@ pub fn mark_heap<R: Threads + Wait + Sync, G: Gate + Sync>(
     requires targets { (x y : ℕ × ℕ) → HasEdge heap.now.shape x y → IsPresent heap.now.shape y }
     requires whole { AreWhole heap.now.shape.arenas }
     requires words { length words.items ≡ length heap.now.shape.arenas }
-    ensures blackened { IfOk result (λ r. HasBlackened (field_at heap.now.shape) (is_marking heap.now.shape)
-        words.items from.now r.0.items r.1.won.items r.1.outside.items) }
+    ensures found { IfOk result (λ r. HasFoundIn heap.now words.items from.now r.0.items r.1) }
+    ensures unlisted { length heap.now.shape.weak.entries ≡ 0 → IfOk result (λ r. r.1.won.items ≡ []) }
 {
     let marked = MarkedHeap::new(alloc, heap)?;
-    mark_black(rt, alloc, &marked, from, words, gate)
+    mark_black(rt, alloc, &marked, from, words, gate, heap.entries() > 0)
 }

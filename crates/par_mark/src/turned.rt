@@ -6,14 +6,14 @@ use crate::slots::push_slots;
 use gz_names::{NoMemory, Place};
 use std::alloc::{AllocError, Global};
 
-/// The cells whose bits are set in the black words after marking and were not before, arena by arena, ascending. The
-/// list has room for these and no more.
+/// The cells whose bits are set in the black words after marking and were not before, arena by arena, ascending. Only
+/// the first arenas are gone through, as many as there are words before. The list has room for these cells and no more.
 pub(crate) fn turned_cells(
     alloc: Global,
     before: &[u64],
     after: &[u64],
 ) -> Result<Vec<Place>, NoMemory>
-    requires { length after.now ≡ length before.now }
+    requires { length before.now ≤ length after.now }
     ensures cells { IfOk result (λ cells. cells.items ≡ turned_places before.now after.now (length before.now)) }
     ensures words { IfOk result (λ _. AreWords before.now (length before.now)
         × AreWords after.now (length before.now)) }

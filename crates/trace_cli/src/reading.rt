@@ -3,9 +3,7 @@ ghost use Rattle.std.specs.Prelude.{◌≡◌, ◌≢◌, ◌<◌, ℕ, [], map,
 ghost use Rattle.clap.specs.Words.{fault_of};
 ghost use Rattle.gz_io.specs.Causes.{Rose};
 ghost use Rattle.command_words.specs.Program.{gczone};
-ghost use Rattle.heap_core.specs.Shape.{field_at, is_marking};
-ghost use Rattle.mark_ahead.specs.Blackening.{HasBlackened};
-ghost use Rattle.mark_ahead.specs.Markers.{MayBeMarked};
+ghost use Rattle.mark_ahead.specs.Markers.{HasFoundIn, MayBeMarked};
 ghost use Rattle.slice_driver.specs.Units.{none_flown};
 ghost use Rattle.trace_cli.specs.CommandLine.{ArePlain, IsCheck, IsStorm, IsStormOf};
 ghost use Rattle.trace_cli.specs.Headline.{Replays, Completes, Checks, Concluded};
@@ -92,9 +90,8 @@ fn run_on<
                         resources.thresholds.cells_for_two,
                         &|alloc: Global, heap: &Heap, from: &[Place], words: Vec<u64>|
                             requires { MayBeMarked heap.now from.now words.items }
-                            ensures { IfOk result (λ r. HasBlackened (field_at heap.entry.now.shape)
-                                (is_marking heap.entry.now.shape) words.items from.entry.now r.0.items r.1.won.items
-                                r.1.outside.items) }
+                            ensures { IfOk result (λ r. HasFoundIn heap.entry.now words.items from.entry.now
+                                r.0.items r.1) }
                         { mark_heap(resources.rt, alloc, heap, from, words, resources.gate) },
                     );
                 }

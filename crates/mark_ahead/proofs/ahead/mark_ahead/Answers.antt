@@ -27,7 +27,8 @@ moments g c = record {
   first = c.in_ok-words.words.items;
   last = c.in_ok-last.last.items;
   from = c.deref.result.now;
-  won = c.in_ok-last.marked.won.items;
+  won = c.in_ok-last.ensures.found.won;
+  listed = c.in_ok-last.marked.won.items;
   outside = c.in_ok-last.marked.outside.items;
   h = c.args.heap.now;
   f = g.F.Flight.bits c.args.flight.now;
@@ -52,7 +53,8 @@ steps g c did = record {
   cells = subst (λ (xs : List Place). (x : Place) → Contains xs x ↔ ((x.1 < 64) × IsMarkedBlack c.args.heap.now x))
       (sym c.deref.ensures.value) c.in_ok-from.ensures;
   words = c.in_ok-words.ensures;
-  marked = c.in_ok-last.ensures.blackened;
+  marked = c.in_ok-last.ensures.found.blackened;
+  listed_won = c.in_ok-last.ensures.found.listed_won;
   exposed = subst (λ (xs : List Place). Exposed xs (joined c.args.heap.now (g.F.Flight.bits c.args.flight.now))
       (pending c.args.heap.now c.args.stack.now) (joined c.turn_all.new.heap (g.F.Flight.bits c.turn_all.new.flight))
       (pending c.turn_all.new.heap c.turn_all.new.stack)) c.deref-2.ensures.value (record {
@@ -93,8 +95,8 @@ pub turn_all-requires-clause-present : goal.turn_all-requires-clause-present
 turn_all-requires-clause-present g c =
     let s = c.args.heap.now.shape in
     let all = outside_present s c.requires.invariant.holds.colours.shape.targets c.in_ok-words.words.items
-    c.in_ok-last.last.items c.deref.result.now c.in_ok-last.marked.won.items c.in_ok-last.marked.outside.items
-    c.in_ok-last.ensures.blackened in
+    c.in_ok-last.last.items c.deref.result.now c.in_ok-last.ensures.found.won c.in_ok-last.marked.outside.items
+    c.in_ok-last.ensures.found.blackened in
     subst (λ (z : HeapState). All (IsPresent z.shape) c.deref-2.result.now) (sym c.mark_uncounted.ensures.same)
     (subst (λ (xs : List Place). All (IsPresent s) xs) (sym c.deref-2.ensures.value) all)
 
@@ -109,7 +111,7 @@ take_words-requires-clause-words g c =
     let p = (goal.at.take_words-requires-clause-words g c).After-turn_all in
     let same : length c.turn_all.new.heap.shape.arenas ≡ length c.args.heap.now.shape.arenas =
     ap (λ (z : HeapState). length z.shape.arenas) (followed g p).grows.spreads.blackens.rest in
-    ap length c.deref-3.ensures.value ∙ c.in_ok-last.ensures.blackened.sized ∙ ap length c.in_ok-words.ensures
+    ap length c.deref-3.ensures.value ∙ c.in_ok-last.ensures.found.blackened.sized ∙ ap length c.in_ok-words.ensures
     ∙ length-map c.args.heap.now.colours (λ (bits : Bits). bits.black)
     ∙ own_sized c.args.heap.now (g.F.Flight.bits c.args.flight.now) (pending c.args.heap.now c.args.stack.now)
     c.requires.invariant.holds

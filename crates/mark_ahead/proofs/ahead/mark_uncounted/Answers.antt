@@ -1,8 +1,6 @@
 use Rattle.std.proofs.Common.{IfOk, refl, subst, sym}
 use Rattle.heap_core.specs.Heap.{HeapState}
-use Rattle.heap_core.specs.Shape.{field_at, is_marking}
-use Rattle.mark_ahead.specs.Blackening.{HasBlackened}
-use Rattle.mark_ahead.specs.Markers.{MayBeMarked}
+use Rattle.mark_ahead.specs.Markers.{HasFoundIn, MayBeMarked}
 use Rattle.mark_ahead.proofs.ahead.mark_uncounted.Given.{Over}
 use Rattle.mark_ahead.proofs.ahead.mark_uncounted.Goals as goal
 use Rattle.mark_ahead.proofs.ahead.mark_uncounted.Goals.{After-uncount_edges-counted_in}
@@ -22,9 +20,8 @@ may g c = subst (λ (z : HeapState). MayBeMarked z c.args.from.now c.args.words.
 pub mark-found-requires : goal.mark-found-requires
 mark-found-requires g c = c.requires.marks.callable _ _ _ _ (may g c)
 
-pub returns-clause-blackened : goal.returns-clause-blackened
-returns-clause-blackened g c = subst (λ (z : HeapState). IfOk c.mark-found.result
-    (λ r. HasBlackened (field_at z.shape) (is_marking z.shape) c.args.words.items c.args.from.now r.0.items
-    r.1.won.items r.1.outside.items)) c.uncount_edges-counted_in.ensures.heap
+pub returns-clause-found : goal.returns-clause-found
+returns-clause-found g c = subst (λ (z : HeapState). IfOk c.mark-found.result
+    (λ r. HasFoundIn z c.args.words.items c.args.from.now r.0.items r.1)) c.uncount_edges-counted_in.ensures.heap
     (c.requires.marks.blackens _ _ _ _ _
-    (may g (goal.at.returns-clause-blackened g c).After-uncount_edges-counted_in) c.mark-found.ensures)
+    (may g (goal.at.returns-clause-found g c).After-uncount_edges-counted_in) c.mark-found.ensures)
