@@ -1,4 +1,4 @@
-"""Small runs of bench/latency.py, bench/memory.py and bench/compaction.py, and how the first ranks times."""
+"""Small runs of bench/latency.py, memory.py, compaction.py and lines.py, and how the first ranks times."""
 
 import importlib.util
 import json
@@ -18,6 +18,7 @@ from program import find_program  # noqa: E402 (the folder of tools is no packag
 from test_tools import run_tool  # noqa: E402
 
 LATENCY, MEMORY, COMPACTION = "../bench/latency.py", "../bench/memory.py", "../bench/compaction.py"
+LINES = "../bench/lines.py"
 SMALL = ["--cells", "2000", "--rounds", "1"]
 KINDS = ["gc", "slice 100", "slice 100, a group ends", "get", "set", "new", "expose"]
 TIME = r"(?:-|\d+\.\d|[\d,]+)"
@@ -161,6 +162,20 @@ class Compaction(Benches):
             status, output, error = run_tool(COMPACTION, *words)
             self.assertEqual((status, output), (2, ""))
             self.assertIn(wanted, error)
+
+
+class Lines(Benches):
+    @unittest.skipUnless(shutil.which("valgrind") and shutil.which("rustc"), "valgrind or rustc is not there")
+    def test_the_table(self):
+        words = ["--only", "get,collect", "--count", "20", "--plain", self.program, "--program", self.program]
+        status, output, error = run_tool(LINES, *words)
+        self.assertEqual(status, 0, error)
+        rows = [[cell.strip() for cell in row.strip("|").split("|")] for row in output.splitlines()]
+        self.assertEqual(rows[0], ["line", "gczone", "plain Rust", "ratio"])
+        lines = ["`get`", "`collect`, of an empty zone", "`collect`, of four zones"]
+        self.assertEqual([row[0] for row in rows[2:]], lines)
+        get, empty, four = (int(row[1].replace(",", "")) for row in rows[2:])
+        self.assertTrue(0 < get < empty < four, output)
 
 
 if __name__ == "__main__":

@@ -52,6 +52,7 @@ WORDS = {
     "check-bindings": [], "spidermonkey/check-logs": [], "../bench/speed.py": [], "../bench/helpers.py": [],
     "../bench/markers.py": [], "../bench/dumps.py": [], "../bench/engines.py": [], "../bench/calls.py": [],
     "../bench/latency.py": [], "../bench/memory.py": [], "../bench/compaction.py": [], "../bench/unchecked.py": [],
+    "../bench/lines.py": [],
 }
 SHELL = ["find-program"]
 
@@ -202,7 +203,7 @@ class WrongWords(Tools):
         self.check_refuses([["prove", "frobnicate"]], "frobnicate is no crate of crates.txt")
         self.check_refuses([["build-unproved", "frobnicate"]], "frobnicate is no program of this repository")
         self.check_refuses([["test", "frobnicate"]], "no check is named frobnicate: see --list")
-        benches = ("speed", "helpers", "markers", "dumps", "engines")
+        benches = ("speed", "helpers", "markers", "dumps", "engines", "lines")
         calls = [[f"../bench/{name}.py", "--only", "frobnicate"] for name in benches]
         self.check_refuses(calls, "'frobnicate' is none of ")
         self.check_refuses([["draw", "heep", FIRST]], "'heep'", "'heap', 'arenas', 'timeline'")
