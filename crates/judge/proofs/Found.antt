@@ -66,22 +66,32 @@ pub record HasCaught (former : GraphState) (before after : Walks) : Type 0 where
   pub live : IsWalked former before.live
   pub caught : CatchesUp former before after
 
+-- the gray names of a group's end
+pub grays_of : (g : GraphState) (old : Cells) (former : GraphState) (before after : Walks) (end : GroupEnd)
+    → HasCaught former before after → HasColours g old after.black.names after.live.names end
+    → Lists (λ x. HasCell old x × IsGray g (zones_in end.zones) former before x) end.grays.items
+grays_of g old former before after end known has =
+    lists_as (λ x. HasCell old x × IsGrayBy g (zones_in end.zones) after.black.names after.live.names x)
+    (λ x. HasCell old x × IsGray g (zones_in end.zones) former before x) end.grays.items
+    (λ x h. (h.0, (h.1.0, (live x).0 h.1.1, λ f. h.1.2 ((black x).1 f))))
+    (λ x h. (h.0, (h.1.0, (live x).1 h.1.1, λ c. h.1.2 ((black x).0 c)))) has.grays
+  where
+    black : (x : Name) → Contains after.black.names x ↔ IsFoundBlack former before x
+    black = black_is former before after known.caught known.black
+
+    live : (x : Name) → Contains after.live.names x ↔ IsFoundLive former before x
+    live = live_is former before after known.caught known.live
+
 -- a group ends with these gray names, and the white ones go
 pub colours_of : (g : GraphState) (old new : Cells) (former : GraphState) (before after : Walks) (end : GroupEnd)
     → HasCaught former before after → HasColours g old after.black.names after.live.names end
     → LetsGo end.whites.items old new → Colours g (zones_in end.zones) former before old end.grays.items new
 colours_of g old new former before after end known has goes = record {
-  grays_are = lists_as (λ x. HasCell old x × IsGrayBy g (zones_in end.zones) after.black.names after.live.names x)
-      (λ x. HasCell old x × IsGray g (zones_in end.zones) former before x) end.grays.items
-      (λ x h. (h.0, (h.1.0, (live x).0 h.1.1, λ f. h.1.2 ((black x).1 f))))
-      (λ x h. (h.0, (h.1.0, (live x).1 h.1.1, λ c. h.1.2 ((black x).0 c)))) has.grays;
+  grays_are = grays_of g old former before after end known has;
   gone = λ x here white. goes.gone x ((has.whites.has x).1 (here, (white.0, λ c. white.1 ((live x).0 c))));
   stay = λ x n. goes.stay x (λ c. let h = (has.whites.has x).0 c in n (h.1.0, λ f. h.1.1 ((live x).1 f)));
 }
   where
-    black : (x : Name) → Contains after.black.names x ↔ IsFoundBlack former before x
-    black = black_is former before after known.caught known.black
-
     live : (x : Name) → Contains after.live.names x ↔ IsFoundLive former before x
     live = live_is former before after known.caught known.live
 

@@ -13,6 +13,8 @@ pub mod Tallies
 pub mod FirstTally
 pub mod Spent
 pub mod LastLines
+pub mod OneList
+pub mod Reports
 pub mod Swept
 pub mod Owners
 pub mod Colours

@@ -32,6 +32,11 @@ none_known (Ok None) p = p
 none_known (Ok (Some k)) p = tt
 none_known (Err e) p = tt
 
+pub fault_known : {K X P : Type 0} (r : Result (Option K) X) → P → IfOk r (λ fault. IfSome fault (λ k. P))
+fault_known (Ok None) p = tt
+fault_known (Ok (Some k)) p = p
+fault_known (Err e) p = tt
+
 -- two clauses together, where there is no fault
 pub none_both : {K X A B C : Type 0} (r : Result (Option K) X) → (A → B → C) → IfOk r (λ fault. IfNone fault A)
     → IfOk r (λ fault. IfNone fault B) → IfOk r (λ fault. IfNone fault C)

@@ -64,6 +64,6 @@ bad_judged input rest more line n due j gives bad =
     (n, due, line, refl, next_of input rest more line n due j gives.0 gives.1, bad)
 
 pub wrong_judged : (input rest more line : List ℕ) (n : ℕ) (due : Due) (j : HasJudged input n rest due)
-    → GivesLine rest more next.Line line → IsWrongLine j.shows due line → IsFirstWrong input (n + 1)
+    → GivesLine rest more next.Line line → IsWrongLine j.graph j.shows due line → IsFirstWrong input (n + 1)
 wrong_judged input rest more line n due j gives wrong =
     (n, due, line, refl, next_of input rest more line n due j gives.0 gives.1, wrong)

@@ -289,7 +289,7 @@ sound_answered : (g : GraphState) (old new : Shown) (due next : Due) (line : Lis
 sound_answered g old new nothing next line a is = absurd a
 sound_answered g old new (reply text) next line (e, n, same) is = sound_same g old new same is
 sound_answered g old new (dump lines) next line (d, same) is = sound_same g old new same is
-sound_answered g old new (units most collects reports) next line (inl (reported, more, counts, n)) is =
+sound_answered g old new (units most collects reports) next line (inl (reported, more, counts, fits, n)) is =
     sound_line g old new line reported is
 sound_answered g old new (units most collects reports) next line (inr (l, n)) is =
     sound_last g most collects reports old new line l is

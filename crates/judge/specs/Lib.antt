@@ -1,3 +1,4 @@
+pub mod Running
 pub mod Lines
 pub mod Former
 pub mod Walks

@@ -27,6 +27,8 @@ use Rattle.judge.specs.Compaction.{Packs}
 use Rattle.judge.specs.Dumps.{ListsDump}
 use Rattle.judge.specs.Lines.{IsOneLine}
 use Rattle.judge.specs.Stages.{Stage, idle, preparing, collecting, Shown, IsFirst, IsOver, IsSettled, IsReportedLine}
+use Rattle.judge.specs.Running.{HasUnits}
+use Rattle.judge.specs.Stages.{IsWrongReportLine}
 use Rattle.judge.specs.Stages.{IsResetLine, Obeys, Spends, TakesNamed}
 use Rattle.judge.specs.Weak.{Unwatches, Watches, is_watched, weak_slot, with_weak_slot}
 use Rattle.judge.specs.declared.answers.Awaited.{Awaited}
@@ -185,10 +187,10 @@ IsLast most true reports old line new =
     (line ≡ codes "collected") × (old.stage ≡ idle) × (new ≡ old) × (old.told ≡ [])
 IsLast most false reports old line new = IsSliced most reports old line new
 
--- the texts that a last line may have
-abbrev pub HasLastText : Bool → List ℕ → Type 0
-HasLastText true line = line ≡ codes "collected"
-HasLastText false line = (k : ℕ) × (line ≡ reply_text (answer.Sliced k))
+-- a line begins as a last one does, of `collect` or of a slice
+abbrev pub LooksLast : Bool → List ℕ → Type 0
+LooksLast true line = line ≡ codes "collected"
+LooksLast false line = (rest : List ℕ) × (line ≡ codes "slice " ++ rest)
 
 -- a report that comes with another one
 abbrev pub IsUncounted : List ℕ → Type 0
@@ -220,18 +222,21 @@ IsAnswered g old nothing line new next = ⊥
 IsAnswered g old (reply due) line new next = (line ≡ due) × (next ≡ nothing) × (new ≡ old)
 IsAnswered g old (dump lines) line new next = IsDumped lines line next × (new ≡ old)
 IsAnswered g old (units most collects reports) line new next =
-    (IsReportedLine g old line new × (more : ℕ) × Counts reports line more × (next ≡ units most collects more))
+    (IsReportedLine g old line new × (more : ℕ) × Counts reports line more × HasUnits most more
+    × (next ≡ units most collects more))
     ⊎ (IsLast most collects reports old line new × (next ≡ nothing))
 IsAnswered g old resets line new next = IsResetLine old line new × (next ≡ after_reset new.stage)
 
--- a line that may be wrong where this is due: it is not the one that is due, and no last line that is right. Of reports
--- nothing is said
-abbrev pub MayBeWrong : Shown → Due → List ℕ → Type 0
-MayBeWrong s nothing line = ⊤
-MayBeWrong s (reply due) line = line ≢ due
-MayBeWrong s (dump lines) line = (next : Due) → IsDumped lines line next → ⊥
-MayBeWrong s (units most collects reports) line = (new : Shown) → IsLast most collects reports s line new → ⊥
-MayBeWrong s resets line = ⊤
+-- a line that is wrong where this is due: it is not the one that is due, no right last line, and no right report, or
+-- one more than a slice has units
+abbrev pub IsWrongAnswer : GraphState → Shown → Due → List ℕ → Type 0
+IsWrongAnswer g s nothing line = ⊤
+IsWrongAnswer g s (reply due) line = line ≢ due
+IsWrongAnswer g s (dump lines) line = (next : Due) → IsDumped lines line next → ⊥
+IsWrongAnswer g s (units most collects reports) line =
+    ((new : Shown) → IsLast most collects reports s line new → ⊥)
+    × ((more : ℕ) → Counts reports line more → HasUnits most more → IsWrongReportLine g s line)
+IsWrongAnswer g s resets line = (new : Shown) → IsResetLine s line new → ⊥
 
 -- what is due while this is awaited
 abbrev pub due_as : Awaited → Due
@@ -244,7 +249,7 @@ due_as awaited.Reset = resets
 -- what is said of a line of an answer: what is awaited after it, or that it is wrong
 abbrev pub IsJudgedLine : {K : Type 0} → GraphState → Shown → Due → List ℕ → Shown → Result Awaited K → Type 0
 IsJudgedLine g old due line new (Ok awaited) = IsAnswered g old due line new (due_as awaited)
-IsJudgedLine g old due line new (Err kind) = MayBeWrong old due line
+IsJudgedLine g old due line new (Err kind) = IsWrongAnswer g old due line
 
 -- n lines come first, the rest is left; the commands among them lead to this graph, each has behind it what is due for
 -- it; this is what the world shows then, and this is due

@@ -349,6 +349,21 @@ abbrev pub IsReportedLine : GraphState → Shown → List ℕ → Shown → Type
 IsReportedLine g old line new =
     ((r : Report) × (line ≡ report_text r) × IsReported g old r new × (old.told ≡ [])) ⊎ IsToldLine old line new
 
+-- a report that no world after it has; of groups nothing is said here
+abbrev pub IsWrongReport : GraphState → Shown → Report → Type 0
+IsWrongReport g old report.Started = (new : Shown) → Starts g old new → ⊥
+IsWrongReport g old (report.Groups groups) = ⊤
+IsWrongReport g old (report.Ended group grays told) =
+    told ≡ [] → (new : Shown) → EndsGroup g old group grays new → ⊥
+IsWrongReport g old (report.Swept arena freed) = (new : Shown) → Sweeps old arena freed new → ⊥
+IsWrongReport g old report.Done = (new : Shown) → Finishes old new → ⊥
+IsWrongReport g old (report.Stopped zones) = ⊤
+
+-- a line that is no right report of a unit, and no line that tells watched cells where one is due
+pub record IsWrongReportLine (g : GraphState) (old : Shown) (line : List ℕ) : Type 0 where
+  pub report : (r : Report) → line ≡ report_text r → old.told ≡ [] → IsWrongReport g old r
+  pub told : (new : Shown) → IsToldLine old line new → ⊥
+
 -- a line by which the groups are formed, and one by which a group ends
 abbrev pub IsGroupsLine : GraphState → Shown → List ℕ → Shown → Type 0
 IsGroupsLine g old line new =

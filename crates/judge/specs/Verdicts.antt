@@ -9,7 +9,7 @@ use Rattle.colour_defs.specs.Graph.{GraphState}
 use Rattle.trace_lang.specs.Grammar.{Spells}
 use Rattle.judge.specs.Lines.{IsOneLine}
 use Rattle.judge.specs.Stages.{Shown}
-use Rattle.judge.specs.Replies.{Due, nothing, Judged, IsUnmarked, MayBeWrong, marked}
+use Rattle.judge.specs.Replies.{Due, nothing, Judged, IsUnmarked, IsWrongAnswer, marked}
 use Rattle.judge.specs.declared.judging.JudgeEnd.{JudgeEnd}
 use Rattle.judge.specs.declared.judging.JudgeEnd.TheVariants as end
 use Rattle.judge.specs.declared.judging.Verdict.{Verdict}
@@ -22,9 +22,9 @@ abbrev pub IsBadLine : List ℕ → Type 0
 IsBadLine line = (text : List ℕ) × (line ≡ marked text) × ((c : Cmd) → Spells text c → ⊥)
 
 -- a line that is wrong after these: a command before the answer to the last one is whole, or a wrong answer
-abbrev pub IsWrongLine : Shown → Due → List ℕ → Type 0
-IsWrongLine s due line =
-    ((text : List ℕ) × (line ≡ marked text) × (due ≢ nothing)) ⊎ (IsUnmarked line × MayBeWrong s due line)
+abbrev pub IsWrongLine : GraphState → Shown → Due → List ℕ → Type 0
+IsWrongLine g s due line =
+    ((text : List ℕ) × (line ≡ marked text) × (due ≢ nothing)) ⊎ (IsUnmarked line × IsWrongAnswer g s due line)
 
 -- the first n lines were judged, and the rest is left
 pub record HasJudged (input : List ℕ) (n : ℕ) (rest : List ℕ) (due : Due) : Type 0 where
@@ -48,7 +48,7 @@ IsJudgedWhole input = (n : ℕ) × HasJudged input n [] nothing
 abbrev pub IsFirstWrong : List ℕ → ℕ → Type 0
 IsFirstWrong input n =
     (before : ℕ) × (due : Due) × (line : List ℕ) × (n ≡ before + 1) × (next : IsNext input before due line)
-    × IsWrongLine next.before.shows due line
+    × IsWrongLine next.before.graph next.before.shows due line
 
 -- the n-th line is bad, and those before it are judged
 abbrev pub IsFirstBad : List ℕ → ℕ → Type 0
@@ -60,10 +60,10 @@ abbrev pub IsCut : List ℕ → Type 0
 IsCut input = (n : ℕ) × (due : Due) × HasJudged input n [] due × (due ≢ nothing)
 
 -- what the next line is, by what the judge says of it
-abbrev pub IsSaid : Shown → Due → List ℕ → Said → Type 0
-IsSaid s due line said.Fine = ⊤
-IsSaid s due line said.Bad = IsBadLine line
-IsSaid s due line (said.Wrong kind) = IsWrongLine s due line
+abbrev pub IsSaid : GraphState → Shown → Due → List ℕ → Said → Type 0
+IsSaid g s due line said.Fine = ⊤
+IsSaid g s due line said.Bad = IsBadLine line
+IsSaid g s due line (said.Wrong kind) = IsWrongLine g s due line
 
 -- a verdict on the bytes of a transcript
 abbrev pub IsVerdictOn : List ℕ → Verdict → Type 0

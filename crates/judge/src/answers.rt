@@ -8,9 +8,11 @@ ghost use Rattle.colour_defs.specs.Graph.{GraphState, register_cell};
 ghost use Rattle.colour_defs.specs.Step.{step_of, with_register};
 ghost use Rattle.trace_lang.specs.Texts.{reply_text};
 ghost use Rattle.judge.specs.Sound.{IsSound};
-ghost use Rattle.judge.specs.Stages.{IsOver, IsOverBound, IsReportedLine, IsResetLine, Obeys, Shown, Spends, idle};
+ghost use Rattle.judge.specs.Stages.{IsOver, IsOverBound, IsReportedLine, IsWrongReportLine, Obeys, Shown, Spends};
+ghost use Rattle.judge.specs.Stages.{idle};
 ghost use Rattle.judge.specs.Stages.{shown, stage_of};
-ghost use Rattle.judge.specs.Replies.{Asks, AsksCompact, Begins, Counts, Dumps, GoesOn, HasLastText, IsJudgedLine};
+ghost use Rattle.judge.specs.Replies.{Asks, AsksCompact, Begins, Counts, Dumps, GoesOn, IsJudgedLine, LooksLast};
+ghost use Rattle.judge.specs.Running.{HasUnits};
 ghost use Rattle.judge.specs.Replies.{IsSliced, IsWithin, ListsGray, after_reset, begun_due, due_as, dump as dump_of};
 ghost use Rattle.judge.specs.Replies.{AsksUnwatch, AsksWatch, AsksWeak, IsUncounted, graph_after, graph_after_weak};
 ghost use Rattle.judge.specs.Replies.{IsLast, nothing, reply};
@@ -20,9 +22,10 @@ ghost use Rattle.judge.specs.Weak.{weak_slot};
 use crate::checks::{self, Fault};
 use crate::dumps::dump_lines;
 use crate::kinds;
+use crate::running::Running;
 use crate::tally::with_one;
 use crate::text::{is_same, reply_text};
-use crate::world::World;
+use crate::world::{DueReport, World};
 use gz_names::{
     Cmd, DumpLine, DumpLines, GraphCmd, NameList, NoMemory, Refusal, Reg, Reply, WeakCmd, WeakNo,
     ZoneNo, ZoneSet,
@@ -32,17 +35,6 @@ use std::alloc::AllocError;
 use std::str;
 
 const NOT_OVER: &[u8] = b"report, the collection is not over";
-
-/// What an answer to a command that runs units may still be.
-#[derive(Clone, Copy)]
-pub struct Running {
-    /// How many units a slice may have; `finish` and `collect` have as many as they want.
-    most: Option<u64>,
-    /// Whether the last line is that of `collect`.
-    collects: bool,
-    /// The reports so far, without `told` and `done`.
-    reports: u64,
-}
 
 /// What is still to come of an answer.
 #[derive(Drop)]
@@ -359,8 +351,12 @@ fn units_line(
             Some(kind) => Ok(Err(kind)),
         };
     }
+    let Some(more) = with_report(running, text)? else {
+        let words = b"units, the slice has a report for each of its units, due is its last line";
+        return Ok(Err(kinds::said(world.alloc, words)?));
+    };
     match next_report(graph, world, running, text)? {
-        None => Ok(Ok(Awaited::Units(with_report(running, text)?))),
+        None => Ok(Ok(Awaited::Units(more))),
         Some(kind) => Ok(Err(kind)),
     }
 }
@@ -395,8 +391,7 @@ fn after_slice(text: &[u8]) -> Option<&[u8]>
 
 // Whether a line looks as the last one of an answer.
 fn is_last(running: Running, text: &[u8]) -> bool
-    ensures is { IsTrue result → running.collects ≡ true → text.now ≡ codes "collected" }
-    ensures other { result ≡ false → HasLastText running.collects text.now → ⊥ }
+    ensures { Decides result (LooksLast running.collects text.now) }
 {
     if running.collects {
         is_same(text, b"collected")
@@ -412,19 +407,25 @@ fn is_uncounted(text: &[u8]) -> bool
     is_same(text, b"done") || text.strip_prefix(b"told ".as_slice()).is_some()
 }
 
-// A report more; `done` comes with the last one, and `told` with the end of a group.
-fn with_report(running: Running, text: &[u8]) -> Result<Running, NoMemory>
-    ensures most { IfOk result (λ more. more.most ≡ running.most) }
-    ensures collects { IfOk result (λ more. more.collects ≡ running.collects) }
-    ensures reports { IfOk result (λ more. Counts running.reports text.now more.reports) }
+// A report more; `done` comes with the last one, and `told` with the end of a group. None where a slice has no unit
+// left for it.
+fn with_report(running: Running, text: &[u8]) -> Result<Option<Running>, NoMemory>
+    ensures some { IfOk result (λ it. IfSome it (λ more. (more.most ≡ running.most)
+        × (more.collects ≡ running.collects) × Counts running.reports text.now more.reports)) }
+    ensures none { IfOk result (λ it. IfNone it ((more : ℕ) → Counts running.reports text.now more
+        → HasUnits running.most more → ⊥)) }
 {
     if is_uncounted(text) {
-        return Ok(running);
+        return Ok(Some(running));
     }
-    Ok(Running {
+    if running.most == Some(running.reports) {
+        return Ok(None);
+    }
+    Ok(Some(Running {
+        most: running.most,
+        collects: running.collects,
         reports: with_one(running.reports, true)?,
-        ..running
-    })
+    }))
 }
 
 fn next_report(
@@ -434,10 +435,12 @@ fn next_report(
     text: &[u8],
 ) -> Result<Fault, NoMemory>
     requires { IsSound graph.now (shown world.old) }
-    ensures { IfOk result (λ fault. IfNone fault (IsReportedLine graph.now (shown world.old) text.now
+    ensures right { IfOk result (λ fault. IfNone fault (IsReportedLine graph.now (shown world.old) text.now
         (shown world.new))) }
+    ensures wrong { IfOk result (λ fault. IfSome fault (λ _. IsWrongReportLine graph.now (shown world.old)
+        text.now)) }
 {
-    if !world.is_running() {
+    if world.has_told() && world.due_report() == DueReport::Idle {
         let words: &[u8] = if running.collects {
             b"report, the collection is over, due is \"collected\""
         } else {
@@ -445,18 +448,12 @@ fn next_report(
         };
         return Ok(Some(kinds::said(world.alloc, words)?));
     }
-    if running.most == Some(running.reports) && !world.is_over() && world.has_told() {
-        return Ok(Some(kinds::said(
-            world.alloc,
-            b"units, the slice has a report for each of its units, due is its last line",
-        )?));
-    }
     checks::judge_report(graph, world, text)
 }
 
 // What is wrong with the last line of an answer.
 fn last_line(world: &mut World, running: Running, text: &[u8]) -> Result<Fault, NoMemory>
-    requires { running.collects ≡ true → text.now ≡ codes "collected" }
+    requires { LooksLast running.collects text.now }
     ensures right { IfOk result (λ fault. IfNone fault
         (IsLast running.most running.collects running.reports (shown world.old) text.now (shown world.new))) }
     ensures wrong { IfOk result (λ fault. IfSome fault (λ _. (new : Shown)

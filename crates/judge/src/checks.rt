@@ -1,5 +1,5 @@
 // The checks of reports, by the definitions: which report is due, and what is wrong with another one.
-ghost use Rattle.std.specs.Prelude.{◌≡◌, ◌↔◌, ℕ, [], ◌∷◌, IfNone, IfOk, IfSome, IsTrue, List, OnOk, codes, drop};
+ghost use Rattle.std.specs.Prelude.{◌≡◌, ◌≢◌, ◌↔◌, ℕ, [], ◌∷◌, IfNone, IfOk, IfSome, IsTrue, List, OnOk, codes, drop};
 ghost use Rattle.gz_names.specs.declared.names.Name.{Name as AName};
 ghost use Rattle.gz_names.specs.declared.zone_sets.ZoneSet.{ZoneSet as AZoneSet};
 ghost use Rattle.gz_names.specs.declared.replies.Report.TheVariants as the_report;
@@ -11,7 +11,7 @@ ghost use Rattle.judge.specs.Sound.{IsSound};
 ghost use Rattle.judge.specs.Whites.{whites_in};
 ghost use Rattle.judge.specs.Walks.{CatchUp, CatchesUp, walks_in, walks_of};
 ghost use Rattle.judge.specs.Stages.{AreForbidden, Finishes, Forms, IsDue, IsEndedLine, IsGroupsLine, IsOver};
-ghost use Rattle.judge.specs.Stages.{IsToldLine};
+ghost use Rattle.judge.specs.Stages.{IsToldLine, IsWrongReportLine, Shown, unfinished_in};
 ghost use Rattle.judge.specs.Stages.{IsReportedLine, IsResetLine, Starts, Stops, Sweeps, shown, stage_in};
 
 use crate::collection::{Collection, GroupEnd};
@@ -32,8 +32,10 @@ pub type Fault = Option<Vec<u8>>;
 /// Judges a line as the next report of a unit, and does what the report does.
 pub fn judge_report(graph: &Graph, world: &mut World, line: &[u8]) -> Result<Fault, NoMemory>
     requires { IsSound graph.now (shown world.old) }
-    ensures { IfOk result (λ fault. IfNone fault (IsReportedLine graph.now (shown world.old) line.now
+    ensures right { IfOk result (λ fault. IfNone fault (IsReportedLine graph.now (shown world.old) line.now
         (shown world.new))) }
+    ensures wrong { IfOk result (λ fault. IfSome fault (λ _. IsWrongReportLine graph.now (shown world.old)
+        line.now)) }
 {
     if !world.has_told() {
         return told(world, line);
@@ -50,7 +52,10 @@ pub fn judge_report(graph: &Graph, world: &mut World, line: &[u8]) -> Result<Fau
 
 /// Judges a line as the next report of a reset, and does what the report does.
 pub fn judge_reset(graph: &Graph, world: &mut World, line: &[u8]) -> Result<Fault, NoMemory>
-    ensures { IfOk result (λ fault. IfNone fault (IsResetLine (shown world.old) line.now (shown world.new))) }
+    ensures right { IfOk result (λ fault. IfNone fault (IsResetLine (shown world.old) line.now
+        (shown world.new))) }
+    ensures wrong { IfOk result (λ fault. IfSome fault (λ _. (new : Shown)
+        → IsResetLine (shown world.old) line.now new → ⊥)) }
 {
     match world.due_report() {
         DueReport::Swept(arena) => swept(world, arena, line),
@@ -69,8 +74,9 @@ fn none_due(world: &World) -> Result<Fault, NoMemory>
 
 fn started(graph: &Graph, world: &mut World, line: &[u8]) -> Result<Fault, NoMemory>
     requires { IsDue due.Started (shown world.old) }
-    ensures { IfOk result (λ fault. IfNone fault ((line.now ≡ codes "started")
+    ensures right { IfOk result (λ fault. IfNone fault ((line.now ≡ codes "started")
         × Starts graph.now (shown world.old) (shown world.new))) }
+    ensures wrong { IfOk result (λ fault. IfSome fault (λ _. line.now ≢ codes "started")) }
 {
     if is_same(line, b"started") {
         world.start(graph)?;
@@ -82,8 +88,10 @@ fn started(graph: &Graph, world: &mut World, line: &[u8]) -> Result<Fault, NoMem
 fn stopped(graph: &Graph, world: &mut World, line: &[u8]) -> Result<Fault, NoMemory>
     requires none_out { (shown world.old).out ≡ [] }
     requires not_over { IsOver (shown world.old) → ⊥ }
-    ensures { IfOk result (λ fault. IfNone fault ((zones : AZoneSet)
+    ensures right { IfOk result (λ fault. IfNone fault ((zones : AZoneSet)
         × (line.now ≡ report_text (the_report.Stopped zones)) × Stops (shown world.old) zones (shown world.new))) }
+    ensures wrong { IfOk result (λ fault. IfSome fault (λ _.
+        line.now ≢ report_text (the_report.Stopped (unfinished_in (shown world.old).stage)))) }
 {
     let due = report_text(world.alloc, &Report::Stopped(world.unfinished()))?;
     if is_same(line, due.as_slice()) {
@@ -95,8 +103,9 @@ fn stopped(graph: &Graph, world: &mut World, line: &[u8]) -> Result<Fault, NoMem
 
 fn done(world: &mut World, line: &[u8]) -> Result<Fault, NoMemory>
     requires { IsDue due.Done (shown world.old) }
-    ensures { IfOk result (λ fault. IfNone fault ((line.now ≡ codes "done")
+    ensures right { IfOk result (λ fault. IfNone fault ((line.now ≡ codes "done")
         × Finishes (shown world.old) (shown world.new))) }
+    ensures wrong { IfOk result (λ fault. IfSome fault (λ _. line.now ≢ codes "done")) }
 {
     if is_same(line, b"done") {
         world.finish()?;
@@ -136,7 +145,9 @@ fn rest_of(alloc: Global, text: &[u8], first: usize) -> Result<Vec<u8>, NoMemory
 
 // The line of the watched cells that died with a group.
 fn told(world: &mut World, line: &[u8]) -> Result<Fault, NoMemory>
-    ensures { IfOk result (λ fault. IfNone fault (IsToldLine (shown world.old) line.now (shown world.new))) }
+    ensures right { IfOk result (λ fault. IfNone fault (IsToldLine (shown world.old) line.now (shown world.new))) }
+    ensures wrong { IfOk result (λ fault. IfSome fault (λ _. (new : Shown)
+        → IsToldLine (shown world.old) line.now new → ⊥)) }
 {
     let text = told_text(world)?;
     if let [b'\n', due @ ..] = text.as_slice() {
@@ -173,9 +184,11 @@ fn names_64(names: &[Name]) -> Result<Names64, NoMemory>
 
 fn swept(world: &mut World, arena: u32, line: &[u8]) -> Result<Fault, NoMemory>
     requires { IsDue (due.Swept arena) (shown world.old) }
-    ensures { IfOk result (λ fault. IfNone fault ((names : List AName)
+    ensures right { IfOk result (λ fault. IfNone fault ((names : List AName)
         × (line.now ≡ report_text (the_report.Swept arena names))
         × Sweeps (shown world.old) arena names (shown world.new))) }
+    ensures wrong { IfOk result (λ fault. IfSome fault (λ _.
+        line.now ≢ report_text (the_report.Swept arena (whites_in world.old.whites arena)))) }
 {
     let report = swept_report(world, arena)?;
     let due = report_text(world.alloc, &report)?;
@@ -205,8 +218,10 @@ fn ended_text(world: &World, end: &GroupEnd) -> Result<Vec<u8>, NoMemory>
 fn ended(graph: &Graph, world: &mut World, line: &[u8]) -> Result<Fault, NoMemory>
     requires due { IsDue due.Ended (shown world.old) }
     requires sound { IsSound graph.now (shown world.old) }
-    ensures { IfOk result (λ fault. IfNone fault (IsEndedLine graph.now (shown world.old) line.now
+    ensures right { IfOk result (λ fault. IfNone fault (IsEndedLine graph.now (shown world.old) line.now
         (shown world.new))) }
+    ensures wrong { IfOk result (λ fault. IfSome fault (λ _. (new : Shown)
+        → IsEndedLine graph.now (shown world.old) line.now new → ⊥)) }
 {
     let Some(end) = world.group_end(graph)? else {
         return none_due(world);

@@ -325,7 +325,8 @@ impl Collection {
 
     /// The first group that has not ended.
     fn next_group(&self) -> Option<ZoneSet>
-        ensures { IfSome result (IsFirstGroup (stage_in self.now)) }
+        ensures some { IfSome result (IsFirstGroup (stage_in self.now)) }
+        ensures none { IfNone result ((group : AZoneSet) → IsFirstGroup (stage_in self.now) group → ⊥) }
     {
         match &self.groups {
             None => None,
@@ -460,6 +461,8 @@ impl World {
         ensures same { OnOk result
             (shown self.new ≡ record (shown self.old) { walks = walks_of self.new.phase }) }
         ensures first { IfOk result (λ end. IfSome end (λ e. IsFirstGroup (stage_of self.old.phase) e.zones)) }
+        ensures none { IfOk result (λ end. IfNone end ((group : AZoneSet)
+            → IsFirstGroup (stage_of self.old.phase) group → ⊥)) }
         ensures colours { IfOk result (λ end. IfSome end (λ e. (before : AWalks) × (after : AWalks)
             × (walks_of self.old.phase ≡ Some before) × (walks_of self.new.phase ≡ Some after)
             × CatchesUp self.old.former.graph before after

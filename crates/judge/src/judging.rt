@@ -123,7 +123,7 @@ impl Known {
     // Judges the next line of a transcript.
     fn next(&mut self, line: &[u8]) -> Result<Said, NoMemory>
         requires { IsSound self.old.graph (shown self.old.world) }
-        ensures said { IfOk result (IsSaid (shown self.old.world) (due_as self.old.awaited) line.now) }
+        ensures said { IfOk result (IsSaid self.old.graph (shown self.old.world) (due_as self.old.awaited) line.now) }
         ensures fine { result ≡ Ok Said.Fine → Steps self.old.graph (shown self.old.world)
             (due_as self.old.awaited) line.now self.new.graph (shown self.new.world) (due_as self.new.awaited) }
     {
@@ -135,7 +135,8 @@ impl Known {
 
     // Judges a line of the trace, given without its mark.
     fn trace_line(&mut self, text: &[u8]) -> Result<Said, NoMemory>
-        ensures said { IfOk result (IsSaid (shown self.old.world) (due_as self.old.awaited) (marked text.now)) }
+        ensures said { IfOk result (IsSaid self.old.graph (shown self.old.world) (due_as self.old.awaited)
+            (marked text.now)) }
         ensures fine { result ≡ Ok Said.Fine → Steps self.old.graph (shown self.old.world)
             (due_as self.old.awaited) (marked text.now) self.new.graph (shown self.new.world)
             (due_as self.new.awaited) }
@@ -150,7 +151,8 @@ impl Known {
     fn command(&mut self, text: &[u8], command: &Cmd) -> Result<Said, NoMemory>
         requires spelled { Spells text.now command.now }
         requires only { (other : _) → Spells text.now other → other ≡ command.now }
-        ensures said { IfOk result (IsSaid (shown self.old.world) (due_as self.old.awaited) (marked text.now)) }
+        ensures said { IfOk result (IsSaid self.old.graph (shown self.old.world) (due_as self.old.awaited)
+            (marked text.now)) }
         ensures fine { result ≡ Ok Said.Fine → Steps self.old.graph (shown self.old.world)
             (due_as self.old.awaited) (marked text.now) self.new.graph (shown self.new.world)
             (due_as self.new.awaited) }
@@ -168,7 +170,7 @@ impl Known {
     fn answer_line(&mut self, line: &[u8]) -> Result<Said, NoMemory>
         requires unmarked { IsUnmarked line.now }
         requires sound { IsSound self.old.graph (shown self.old.world) }
-        ensures said { IfOk result (IsSaid (shown self.old.world) (due_as self.old.awaited) line.now) }
+        ensures said { IfOk result (IsSaid self.old.graph (shown self.old.world) (due_as self.old.awaited) line.now) }
         ensures fine { result ≡ Ok Said.Fine → Steps self.old.graph (shown self.old.world)
             (due_as self.old.awaited) line.now self.new.graph (shown self.new.world) (due_as self.new.awaited) }
     {

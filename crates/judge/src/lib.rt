@@ -35,6 +35,7 @@ mod kinds;
 mod lines;
 mod parse;
 mod preparation;
+mod running;
 mod tally;
 mod text;
 mod weak;

@@ -14,11 +14,13 @@ use Rattle.judge.specs.Whites.{AreByArena}
 use Rattle.judge.specs.declared.collection.GroupEnd.{GroupEnd}
 use Rattle.judge.specs.declared.former.Former.{Former}
 use Rattle.judge.specs.declared.weak.WeakNames.{WeakNames}
-use Rattle.judge.proofs.Found.{colours_of, told_of, whites_of}
+use Rattle.judge.proofs.Found.{colours_of, grays_of, told_of, whites_of}
+use Rattle.judge.proofs.Reports.{not_ended}
+use Rattle.judge.proofs.Results.{fault_known, none_is}
 use Rattle.judge.proofs.checks.ended.Goals as goal
 
-pub returns-then-is_same : goal.returns-then-is_same
-returns-then-is_same c =
+pub returns-then-is_same-clause-right : goal.returns-then-is_same-clause-right
+returns-then-is_same-clause-right c =
     let end = c.in-Some.end in
     let before = c.args.world.now in
     let mid = c.group_end.new.self in
@@ -82,3 +84,29 @@ returns-then-is_same c =
         };
       },
     )
+
+pub returns-clause-wrong : goal.returns-clause-wrong
+returns-clause-wrong c =
+    let end = c.in-Some.end in
+    let before = c.args.world.now in
+    let first = subst (λ (o : Option GroupEnd). IfSome o (λ e. IsFirstGroup (stage_of before.phase) e.zones))
+    c.in-Some.is c.in_ok-end.ensures.first in
+    let found = subst (λ (o : Option GroupEnd). IfSome o (λ e. (b : Walks) × (a : Walks)
+    × (walks_of before.phase ≡ Some b) × (walks_of c.group_end.new.self.phase ≡ Some a)
+    × CatchesUp before.former.graph b a × HasColours c.args.graph.now before.places a.black.names a.live.names e))
+    c.in-Some.is c.in_ok-end.ensures.colours in
+    let walked = c.requires.sound.walks found.0 found.2 (subst HasGroups (sym first.3) tt) in
+    not_ended c.args.graph.now (shown before) c.args.line.now end
+    (record {
+      first = first;
+      walks = found.0;
+      found = found.2;
+      grays = grays_of c.args.graph.now before.places before.former.graph found.0 found.1 end
+          (record { black = walked.black; live = walked.live; caught = found.4 }) found.5;
+    })
+    (λ e. let same = c.is_same.ensures.1 (e ∙ sym (c.as_slice.ensures.value ∙ c.in_ok-due.ensures)) in
+    cc (same, c.if-is_same.false))
+
+pub returns-in_default-clause-wrong : goal.returns-in_default-clause-wrong
+returns-in_default-clause-wrong c = fault_known c.none_due.result (λ new ended.
+    none_is c.in_ok-end.field-0 c.in_default.is c.in_ok-end.ensures.none c.requires.due.1.0 c.requires.due.1.1)

@@ -1,7 +1,7 @@
 use Rattle.judge.proofs.checks.started.Goals as goal
 
-pub returns-then-is_same : goal.returns-then-is_same
-returns-then-is_same c = (
+pub returns-then-is_same-clause-right : goal.returns-then-is_same-clause-right
+returns-then-is_same-clause-right c = (
   c.is_same.ensures.0 c.if-is_same.true,
   record {
     zones = c.requires.1.0;

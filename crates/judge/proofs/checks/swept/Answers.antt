@@ -5,8 +5,8 @@ use Rattle.judge.specs.Stages.{shown}
 use Rattle.judge.specs.Whites.{whites_in}
 use Rattle.judge.proofs.checks.swept.Goals as goal
 
-pub returns-then-is_same : goal.returns-then-is_same
-returns-then-is_same c = (
+pub returns-then-is_same-clause-right : goal.returns-then-is_same-clause-right
+returns-then-is_same-clause-right c = (
   whites_in c.args.world.now.whites c.args.arena,
   c.is_same.ensures.0 c.if-is_same.true ∙ c.as_slice.ensures.value ∙ c.in_ok-due.ensures
       ∙ ap report_text c.in_ok-report.ensures,

@@ -90,7 +90,9 @@ returns-in-Bad-clause-verdict g c = λ input e.
     let one = subst (λ (r : NextLine). GivesLine i.0 given.0 r line) c.in-Line.is given.2 in
     let due : Due = due_as c.loop-read.known.awaited in
     let shows : Shown = shown c.loop-read.known.world in
-    let bad = subst (λ (s : Said). IsSaid shows due c.as_slice.result.now s) c.in-Bad.is c.in_ok-next-2.ensures.said in
+    let said = c.in_ok-next-2.ensures.said in
+    let bad =
+    subst (λ (s : Said). IsSaid c.loop-read.known.graph shows due c.as_slice.result.now s) c.in-Bad.is said in
     let judged = judged_of input i.0 c.loop-read.read c.loop-read.known.graph shows due i.2 in
     bad_judged input i.0 given.0 line c.loop-read.read due judged one
     (subst (λ (l : List ℕ). IsBadLine l) c.as_slice.ensures.value bad)
@@ -104,7 +106,8 @@ returns-in-Wrong-clause-verdict g c = λ input e.
     let due : Due = due_as c.loop-read.known.awaited in
     let shows : Shown = shown c.loop-read.known.world in
     let said = c.in_ok-next-2.ensures.said in
-    let wrong = subst (λ (s : Said). IsSaid shows due c.as_slice.result.now s) c.in-Wrong.is said in
+    let wrong =
+    subst (λ (s : Said). IsSaid c.loop-read.known.graph shows due c.as_slice.result.now s) c.in-Wrong.is said in
     let judged = judged_of input i.0 c.loop-read.read c.loop-read.known.graph shows due i.2 in
     wrong_judged input i.0 given.0 line c.loop-read.read due judged one
-    (subst (λ (l : List ℕ). IsWrongLine shows due l) c.as_slice.ensures.value wrong)
+    (subst (λ (l : List ℕ). IsWrongLine c.loop-read.known.graph shows due l) c.as_slice.ensures.value wrong)

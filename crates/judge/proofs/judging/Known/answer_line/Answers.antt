@@ -1,7 +1,7 @@
 use Rattle.std.proofs.Common.{inr, refl, subst}
 use Rattle.colour_defs.specs.Graph.{GraphState}
 use Rattle.judge.specs.Stages.{Shown, shown}
-use Rattle.judge.specs.Replies.{IsAnswered, IsJudgedLine, MayBeWrong, due_as}
+use Rattle.judge.specs.Replies.{IsAnswered, IsJudgedLine, IsWrongAnswer, due_as}
 use Rattle.judge.specs.declared.answers.Awaited.{Awaited}
 use Rattle.judge.proofs.judging.Known.answer_line.Goals as goal
 
@@ -26,5 +26,5 @@ returns-in-Err-clause-said c =
     let new : Shown = shown c.judge_line.new.world in
     let judged = subst (λ r. IsJudgedLine g old due c.args.line.now new r) c.in-Err.is c.in_ok-awaited.ensures in inr (
       c.requires.unmarked,
-      subst (λ (a : Awaited). MayBeWrong old (due_as a) c.args.line.now) c.replace-awaited.ensures.value judged,
+      subst (λ (a : Awaited). IsWrongAnswer g old (due_as a) c.args.line.now) c.replace-awaited.ensures.value judged,
     )

@@ -7,7 +7,8 @@ use Rattle.judge.proofs.judging.Known.next.Goals as goal
 pub returns-in-Some-clause-said : goal.returns-in-Some-clause-said
 returns-in-Some-clause-said c =
     let before = c.args.self.now in
-    subst (λ (l : List ℕ). IfOk c.trace_line.result (IsSaid (shown before.world) (due_as before.awaited) l))
+    subst
+    (λ (l : List ℕ). IfOk c.trace_line.result (IsSaid before.graph (shown before.world) (due_as before.awaited) l))
     (sym c.in-Some.ensures.some) c.trace_line.ensures.said
 
 pub returns-in-Some-clause-fine : goal.returns-in-Some-clause-fine
