@@ -163,7 +163,7 @@ not_none s n = go (zones_in s) refl
     go [] e = absurd (n e)
     go (z ∷ zs) e = (z, in_set s (z ∷ zs) z e (contains_head z zs))
 
-parts_of : (f : Forming) (w : World) (k : Collection) (groups : List ZoneSet) → Stands f w k
+pub parts_of : (f : Forming) (w : World) (k : Collection) (groups : List ZoneSet) → Stands f w k
     → AreLawfulGroups w k (map zones_in groups) → AreParts f.zones groups
 parts_of f w k groups stands lawful = record {
   all = λ z h.

@@ -1,4 +1,4 @@
-pub mod Feeds
+pub mod Bytes
 pub mod Reading
 pub mod Results
 pub mod Runs
@@ -8,6 +8,8 @@ pub mod Parts
 pub mod Cells
 pub mod ZoneEdges
 pub mod Groups
+pub mod GroupLines
+pub mod Listed
 pub mod Counted
 pub mod Tallies
 pub mod FirstTally

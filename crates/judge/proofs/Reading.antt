@@ -5,7 +5,7 @@ use Rattle.std.proofs.lemmas.List.{append-nil}
 use Rattle.std.specs.Io.KnownBytes.{Consumes, IsAtEnd, Keeps, prepend_known}
 use Rattle.judge.specs.Lines.{GivesKnownLine, IsOneLine, TakesHeld}
 use Rattle.judge.specs.declared.lines.NextLine.TheVariants as next
-use Rattle.judge.proofs.Feeds.{joined}
+use Rattle.judge.proofs.Bytes.{lacks_both}
 
 -- the bytes to come are those of the line, those that are held, and those that are left
 abbrev pub HasTaken : Option (List ℕ) → List ℕ → List ℕ → Option (List ℕ) → Type 0
@@ -17,7 +17,7 @@ pub whole_line : (all left : Option (List ℕ)) (line held new_line new_held : L
 whole_line None left line held new_line new_held k one t = tt
 whole_line (Some xs) None line held new_line new_held k one t = absurd k
 whole_line (Some xs) (Some ys) line held new_line new_held k one t = (
-  subst IsOneLine (sym t.3) (joined line t.0 one t.1),
+  subst IsOneLine (sym t.3) (lacks_both 10 line t.0 one t.1),
   inl (sym k
       ∙ ap (λ h. (line ++ h) ++ ys) t.2
       ∙ ap (λ h. h ++ ys) (sym (append_assoc line t.0 (10 ∷ new_held)))
@@ -32,7 +32,7 @@ more_held all left line held new_line new_held k t =
 
 pub still_one : (line held new_line new_held : List ℕ) → IsOneLine line → TakesHeld false held new_held line new_line
     → IsOneLine new_line
-still_one line held new_line new_held one t = subst IsOneLine (sym t.2) (joined line held one t.0)
+still_one line held new_line new_held one t = subst IsOneLine (sym t.2) (lacks_both 10 line held one t.0)
 
 -- a piece was taken where nothing was held
 pub more_taken : (all left rest : Option (List ℕ)) (line held new_held : List ℕ) → HasTaken all line held left

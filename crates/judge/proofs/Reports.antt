@@ -1,6 +1,6 @@
 -- What is wrong with a line that is not the report that is due.
-use Rattle.std.proofs.Common.{◌≡◌, ◌≢◌, ◌∙◌, ℕ, List, [], ◌∷◌, ◌++◌, get_or, Bool, true, false, Option, Some, None}
-use Rattle.std.proofs.Common.{refl, sym, ap, subst, arith, ◌⊎◌, inl, inr}
+use Rattle.std.proofs.Common.{◌≡◌, ◌≢◌, ◌∙◌, ℕ, List, [], ◌∷◌, get_or, Bool, true, false, Option, Some, None}
+use Rattle.std.proofs.Common.{sym, ap, subst, arith, ◌⊎◌, inl, inr}
 use Rattle.std.specs.Prelude.{codes, ⊤}
 use Rattle.std.specs.Fmt.{decimal}
 use Rattle.gz_names.specs.Zones.{zones_in}
@@ -13,9 +13,9 @@ use Rattle.colour_defs.specs.Ends.{Lists}
 use Rattle.trace_lang.specs.Texts.{report_text, told_text}
 use Rattle.judge.specs.Cells.{HasCell, IsGray}
 use Rattle.judge.specs.Replies.{IsLast, LooksLast}
-use Rattle.judge.specs.Stages.{EndsGroup, Finishes, IsDue, IsEndedLine, IsFirstGroup, IsOver, IsResetLine, IsToldLine}
+use Rattle.judge.specs.Stages.{AreForbidden, IsDue, IsEndedLine, IsFirstGroup, IsOver, IsResetLine, IsToldLine}
 use Rattle.judge.specs.Stages.{IsWrongReport}
-use Rattle.judge.specs.Stages.{IsWrongReportLine, Shown, Stage, Starts, Stops, Sweeps, collecting, idle, preparing}
+use Rattle.judge.specs.Stages.{IsWrongReportLine, Shown, Stage, collecting, idle, preparing}
 use Rattle.judge.specs.Stages.{unfinished_in}
 use Rattle.judge.specs.Walks.{Walks}
 use Rattle.judge.specs.Whites.{whites_in}
@@ -58,7 +58,8 @@ over_due s over = at_rest s (collecting over.zones over.marking (Some [])) over.
 abbrev pub Refuses : DueReport → GraphState → Shown → List ℕ → Type 0
 Refuses due.Idle g s line = ⊤
 Refuses due.Started g s line = line ≢ codes "started"
-Refuses due.Groups g s line = ⊤
+Refuses due.Groups g s line =
+    (groups : List ZoneSet) → line ≡ report_text (report.Groups groups) → AreForbidden g s groups
 Refuses due.Ended g s line = (new : Shown) → IsEndedLine g s line new → ⊥
 Refuses (due.Swept a) g s line = line ≢ report_text (report.Swept a (whites_in s.whites a))
 Refuses due.Done g s line = line ≢ codes "done"
@@ -71,7 +72,8 @@ module _ (d : DueReport) (g : GraphState) (s : Shown) (line : List ℕ) (at : du
   wrong_report : (r : Report) → line ≡ report_text r → IsWrongReport g s r
   wrong_report report.Started e = λ new starts.
       refused_as due.Started (at_rest s (preparing starts.zones) starts.none_out starts.was) e
-  wrong_report (report.Groups groups) e = tt
+  wrong_report (report.Groups groups) e = λ none zones marking walks stage.
+      refused_as due.Groups (at_rest s (collecting zones marking None) none stage) groups e zones marking walks stage
   wrong_report (report.Ended group grays told) e = λ none new ends.
       refused_as due.Ended (at_rest s (collecting ends.ends.zones ends.ends.marking (Some (group ∷ ends.ends.rest)))
       ends.none_out ends.ends.was) new
@@ -159,7 +161,8 @@ no_report : (collects : Bool) (g : GraphState) (s : Shown) (line : List ℕ) →
     → line ≡ report_text r → IsWrongReport g s r
 no_report true g s line is report.Started e =
     absurd (let differ : 99 ≡ 115 = same_at 0 line _ _ is e in omega (arith, differ))
-no_report true g s line is (report.Groups groups) e = tt
+no_report true g s line is (report.Groups groups) e =
+    absurd (let differ : 99 ≡ 103 = same_at 0 line _ _ is e in omega (arith, differ))
 no_report true g s line is (report.Ended group grays told) e =
     absurd (let differ : 99 ≡ 101 = same_at 0 line _ _ is e in omega (arith, differ))
 no_report true g s line is (report.Swept a freed) e =
@@ -169,7 +172,8 @@ no_report true g s line is report.Done e =
 no_report true g s line is (report.Stopped zones) e = tt
 no_report false g s line (rest, is) report.Started e =
     absurd (let differ : 108 ≡ 116 = same_at 1 line _ _ is e in omega (arith, differ))
-no_report false g s line (rest, is) (report.Groups groups) e = tt
+no_report false g s line (rest, is) (report.Groups groups) e =
+    absurd (let differ : 108 ≡ 114 = same_at 1 line _ _ is e in omega (arith, differ))
 no_report false g s line (rest, is) (report.Ended group grays told) e =
     absurd (let differ : 108 ≡ 110 = same_at 1 line _ _ is e in omega (arith, differ))
 no_report false g s line (rest, is) (report.Swept a freed) e =

@@ -1,6 +1,6 @@
 -- What holds of a call's result that is returned as it is.
-use Rattle.std.proofs.Common.{◌≡◌, Bool, true, false, not, refl, Result, Ok, Err, Option, Some, None, IfOk}
-use Rattle.std.specs.Prelude.{IfNone, IfSome, OnOk, is_some}
+use Rattle.std.proofs.Common.{◌≡◌, Bool, true, false, not, refl, Result, Ok, Err, Option, Some, None, IfOk, subst}
+use Rattle.std.specs.Prelude.{IfNone, IfSome, MatchOption, OnOk, is_some}
 
 -- two clauses together
 pub both_ok : {X E : Type 0} (r : Result X E) (P Q R : X → Type 0) → ((x : X) → P x → Q x → R x) → IfOk r P → IfOk r Q
@@ -63,6 +63,15 @@ not_there o false e p none = let x = some_there o e p in absurd (none x.0 x.1)
 pub some_is : {X P : Type 0} (o : Option X) (x : X) → o ≡ Some x → IfSome o (λ y. P) → P
 some_is None x e p = absurd (cc e)
 some_is (Some y) x e p = p
+
+pub match_some : {X : Type 0} (o : Option X) (x : X) (A : Type 0) (P : X → Type 0) → o ≡ Some x → MatchOption o A P
+    → P x
+match_some None x A P e p = absurd (cc e)
+match_some (Some y) x A P e p = let same : y ≡ x = cc e in subst P same p
+
+pub match_none : {X : Type 0} (o : Option X) (A : Type 0) (P : X → Type 0) → o ≡ None → MatchOption o A P → A
+match_none None A P e p = p
+match_none (Some x) A P e p = absurd (cc e)
 
 pub none_is : {X P : Type 0} (o : Option X) → o ≡ None → IfNone o P → P
 none_is None e p = p

@@ -4,10 +4,14 @@ use Rattle.gz_io.specs.Lines.{EndsLine}
 use Rattle.judge.specs.declared.lines.NextLine.{NextLine}
 use Rattle.judge.specs.declared.lines.NextLine.TheVariants as next
 
+-- bytes without this one
+abbrev pub Lacks : ℕ → List ℕ → Type 0
+Lacks byte [] = ⊤
+Lacks byte (b ∷ bs) = (b ≢ byte) × Lacks byte bs
+
 -- bytes without a line feed
 abbrev pub IsOneLine : List ℕ → Type 0
-IsOneLine [] = ⊤
-IsOneLine (b ∷ bs) = (b ≢ 10) × IsOneLine bs
+IsOneLine line = Lacks 10 line
 
 -- what is held as far as a line feed was added to the line, if there is one; else all of it
 abbrev pub TakesHeld : Bool → List ℕ → List ℕ → List ℕ → List ℕ → Type 0

@@ -1,5 +1,5 @@
 -- Groups that part the zones of a collection.
-use Rattle.std.specs.Prelude.{◌↔◌, ℕ, List, Contains, AllPairs}
+use Rattle.std.specs.Prelude.{◌↔◌, ℕ, ◌<◌, ◌≤◌, ◌^◌, List, Contains, AllPairs, length}
 use Rattle.gz_names.specs.Zones.{HasZone}
 use Rattle.gz_names.specs.declared.zone_sets.ZoneSet.{ZoneSet}
 
@@ -12,6 +12,12 @@ pub record AreParts (zones : ZoneSet) (groups : List ZoneSet) : Type 0 where
   pub only : (g : ZoneSet) (z : ℕ) → Contains groups g → HasZone g.bits z → HasZone zones.bits z
   pub full : (g : ZoneSet) → Contains groups g → (z : ℕ) × HasZone g.bits z
   pub apart : AllPairs AreApart groups
+
+-- groups that a line can list: at most 64, each with zones, in 64 bits
+pub record AreListed (groups : List ZoneSet) : Type 0 where
+  pub few : length groups ≤ 64
+  pub some : (g : ZoneSet) → Contains groups g → 0 < g.bits
+  pub small : (g : ZoneSet) → Contains groups g → g.bits < 2 ^ 64
 
 -- a group has zones, all of them among these, and none that was seen before
 pub record Fits (zones seen group : ZoneSet) : Type 0 where

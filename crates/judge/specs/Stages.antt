@@ -349,10 +349,10 @@ abbrev pub IsReportedLine : GraphState → Shown → List ℕ → Shown → Type
 IsReportedLine g old line new =
     ((r : Report) × (line ≡ report_text r) × IsReported g old r new × (old.told ≡ [])) ⊎ IsToldLine old line new
 
--- a report that no world after it has; of groups nothing is said here
+-- a report that no world after it has; of groups, which are lawful in no world of the definitions
 abbrev pub IsWrongReport : GraphState → Shown → Report → Type 0
 IsWrongReport g old report.Started = (new : Shown) → Starts g old new → ⊥
-IsWrongReport g old (report.Groups groups) = ⊤
+IsWrongReport g old (report.Groups groups) = old.out ≡ [] → AreForbidden g old groups
 IsWrongReport g old (report.Ended group grays told) =
     told ≡ [] → (new : Shown) → EndsGroup g old group grays new → ⊥
 IsWrongReport g old (report.Swept arena freed) = (new : Shown) → Sweeps old arena freed new → ⊥

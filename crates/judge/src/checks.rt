@@ -1,12 +1,13 @@
 // The checks of reports, by the definitions: which report is due, and what is wrong with another one.
-ghost use Rattle.std.specs.Prelude.{◌≡◌, ◌≢◌, ◌↔◌, ℕ, [], ◌∷◌, IfNone, IfOk, IfSome, IsTrue, List, OnOk, codes, drop};
+ghost use Rattle.std.specs.Prelude.{◌≡◌, ◌≢◌, ◌↔◌, ℕ, [], ◌∷◌, IfNone, IfOk, IfSome, IsTrue, List, MatchOption};
+ghost use Rattle.std.specs.Prelude.{OnOk, codes, drop};
 ghost use Rattle.gz_names.specs.declared.names.Name.{Name as AName};
 ghost use Rattle.gz_names.specs.declared.zone_sets.ZoneSet.{ZoneSet as AZoneSet};
 ghost use Rattle.gz_names.specs.declared.replies.Report.TheVariants as the_report;
 ghost use Rattle.trace_lang.specs.Texts.{report_text, told_text};
 ghost use Rattle.judge.specs.declared.world.DueReport.TheVariants as due;
 ghost use Rattle.judge.specs.Edges.{AreInOrder};
-ghost use Rattle.judge.specs.Parts.{AreParts, Fits};
+ghost use Rattle.judge.specs.Parts.{AreListed, AreParts, Fits};
 ghost use Rattle.judge.specs.Sound.{IsSound};
 ghost use Rattle.judge.specs.Whites.{whites_in};
 ghost use Rattle.judge.specs.Walks.{CatchUp, CatchesUp, walks_in, walks_of};
@@ -17,8 +18,8 @@ ghost use Rattle.judge.specs.Stages.{IsReportedLine, IsResetLine, Starts, Stops,
 use crate::collection::{Collection, GroupEnd};
 use crate::edges::{first_apart, first_backward, zone_edges};
 use crate::former::Former;
+use crate::group_lines::groups_in;
 use crate::kinds;
-use crate::parse::{after, parse_groups};
 use crate::text::{is_same, report_text};
 use crate::world::{DueReport, Phase, World};
 use gz_names::{Name, NameList, Names64, NoMemory, Place, Report, ZoneSet};
@@ -236,12 +237,14 @@ fn ended(graph: &Graph, world: &mut World, line: &[u8]) -> Result<Fault, NoMemor
 
 // The groups that a line writes, if it is their text.
 fn groups_of(world: &World, line: &[u8]) -> Result<Option<Vec<ZoneSet>>, NoMemory>
-    ensures { IfOk result (λ it. IfSome it (λ groups. line.now ≡ report_text (the_report.Groups groups.items))) }
+    ensures some { IfOk result (λ it. IfSome it (λ groups. line.now ≡ report_text (the_report.Groups groups.items))) }
+    ensures exact { (groups : List AZoneSet) → AreListed groups → line.now ≡ report_text (the_report.Groups groups)
+        → IfOk result (λ it. MatchOption it ⊥ (λ read. read.items ≡ groups)) }
 {
-    let Some(text) = after(line, b"groups") else {
+    let Some(text) = line.strip_prefix(b"groups".as_slice()) else {
         return Ok(None);
     };
-    let Some(read) = parse_groups(text) else {
+    let Some(read) = groups_in(world.alloc, text)? else {
         return Ok(None);
     };
     let groups = Vec::from_slice(world.alloc, read.as_slice())?;
@@ -256,8 +259,10 @@ fn groups_of(world: &World, line: &[u8]) -> Result<Option<Vec<ZoneSet>>, NoMemor
 fn formed(graph: &Graph, world: &mut World, line: &[u8]) -> Result<Fault, NoMemory>
     requires due { IsDue due.Groups (shown world.old) }
     requires sound { IsSound graph.now (shown world.old) }
-    ensures { IfOk result (λ fault. IfNone fault (IsGroupsLine graph.now (shown world.old) line.now
+    ensures right { IfOk result (λ fault. IfNone fault (IsGroupsLine graph.now (shown world.old) line.now
         (shown world.new))) }
+    ensures wrong { IfOk result (λ fault. IfSome fault (λ _. (groups : List AZoneSet)
+        → line.now ≡ report_text (the_report.Groups groups) → AreForbidden graph.now (shown world.old) groups)) }
 {
     let Some(groups) = groups_of(world, line)? else {
         return Ok(Some(kinds::due(world.alloc, b"report", b"groups ..")?));

@@ -30,6 +30,7 @@ mod compaction;
 mod dumps;
 mod edges;
 mod former;
+mod group_lines;
 mod judging;
 mod kinds;
 mod lines;

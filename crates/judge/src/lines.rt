@@ -3,20 +3,20 @@ ghost use Rattle.std.specs.Prelude.{◌≡◌, ◌+◌, ◌<◌, ◌≤◌, ◌�
 ghost use Rattle.std.specs.Prelude.{take};
 ghost use Rattle.std.specs.Io.KnownBytes.{Consumes, IsAtEnd, Keeps, prepend_known};
 ghost use Rattle.gz_io.specs.Causes.{HasCause, Rose};
-ghost use Rattle.judge.specs.Lines.{GivesKnownLine, IsOneLine, TakesHeld};
+ghost use Rattle.judge.specs.Lines.{GivesKnownLine, Lacks, TakesHeld};
 
 use gz_io::{Failed, Source};
 use gz_names::NoMemory;
 use std::marker::Model;
 
-// The place of the first line feed.
-fn feed_in(bytes: &[u8]) -> Option<usize>
-    ensures some { IfSome result (λ n. (n < length bytes.now) × IsOneLine (take n bytes.now)
-        × (bytes.now ≡ take n bytes.now ++ 10 ∷ drop (n + 1) bytes.now)) }
-    ensures none { IfNone result (IsOneLine bytes.now) }
+/// The first place of a byte.
+pub fn place_of(bytes: &[u8], wanted: u8) -> Option<usize>
+    ensures some { IfSome result (λ n. (n < length bytes.now) × Lacks wanted (take n bytes.now)
+        × (bytes.now ≡ take n bytes.now ++ wanted ∷ drop (n + 1) bytes.now)) }
+    ensures none { IfNone result (Lacks wanted bytes.now) }
 {
     for (i, byte) in bytes.iter().enumerate() {
-        if *byte == b'\n' {
+        if *byte == wanted {
             return Some(i);
         }
     }
@@ -83,7 +83,7 @@ impl Lines {
         ensures { IfOk result (λ whole. TakesHeld whole self.old self.new line.old.items line.new.items) }
     {
         let held = &self.piece[self.from..self.end];
-        match feed_in(held) {
+        match place_of(held, b'\n') {
             Some(length) => {
                 line.extend_from_slice(&held[..length])?;
                 self.from += length + 1;

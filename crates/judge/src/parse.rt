@@ -1,5 +1,5 @@
-// Reading an answer. What is read is compared with the text that is due, so nothing here decides what is lawful.
-use gz_names::{CompNo, Groups, Name, NoMemory, ZoneNo, ZoneSet};
+// Reading an answer for the words that say what is wrong with it. Nothing here decides what is lawful.
+use gz_names::{CompNo, Name, NoMemory};
 use std::alloc::Global;
 
 /// The number that a word writes.
@@ -34,46 +34,6 @@ pub fn next_word(text: &[u8]) -> (&[u8], &[u8]) {
         None => (text, &[]),
         Some(place) => (&text[..place], &text[place + 1..]),
     }
-}
-
-fn parse_zone(word: &[u8]) -> Option<ZoneNo> {
-    let number = parse_number(word)?;
-    if number < 64 {
-        ZoneNo::new(number as u8)
-    } else {
-        None
-    }
-}
-
-fn push_group(groups: &mut Groups, group: ZoneSet) -> Option<()> {
-    if groups.len() < 64 {
-        groups.push(group);
-        Some(())
-    } else {
-        None
-    }
-}
-
-/// Groups of zones, with a bar between two.
-pub fn parse_groups(text: &[u8]) -> Option<Groups> {
-    let mut groups = Groups::new();
-    let mut group = ZoneSet::new();
-    let mut rest = text;
-    for _ in 0..text.len() {
-        if rest.is_empty() {
-            break;
-        }
-        let (word, others) = next_word(rest);
-        if word == b"|".as_slice() {
-            push_group(&mut groups, group)?;
-            group = ZoneSet::new();
-        } else {
-            group.insert(parse_zone(word)?);
-        }
-        rest = others;
-    }
-    push_group(&mut groups, group)?;
-    Some(groups)
 }
 
 /// A name.

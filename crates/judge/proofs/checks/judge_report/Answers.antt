@@ -41,14 +41,14 @@ returns-in-Started-clause-wrong c =
 pub returns-in-Groups-clause-right : goal.returns-in-Groups-clause-right
 returns-in-Groups-clause-right c =
     let none = c.has_told.ensures.0 c.if-not-has_told.false in
-    no_fault c.formed.result (λ p. inl (report.Groups p.0, p.1, (p.2, p.3), none)) c.formed.ensures
+    no_fault c.formed.result (λ p. inl (report.Groups p.0, p.1, (p.2, p.3), none)) c.formed.ensures.right
 
 pub returns-in-Groups-clause-wrong : goal.returns-in-Groups-clause-wrong
 returns-in-Groups-clause-wrong c =
     let none = c.has_told.ensures.0 c.if-not-has_told.false in
     let at = subst (λ d. IsDue d (shown c.args.world.now)) c.in-Groups.is c.due_report.ensures in
-    fault_known c.formed.result
-    (not_due due.Groups c.args.graph.now (shown c.args.world.now) c.args.line.now at none tt)
+    a_fault c.formed.result (not_due due.Groups c.args.graph.now (shown c.args.world.now) c.args.line.now at none)
+    c.formed.ensures.wrong
 
 pub returns-in-Ended-clause-right : goal.returns-in-Ended-clause-right
 returns-in-Ended-clause-right c =

@@ -1,8 +1,7 @@
-use Rattle.std.proofs.Common.{refl, subst}
+use Rattle.std.proofs.Common.{subst}
 use Rattle.gz_names.specs.declared.replies.Report.TheVariants as report
 use Rattle.judge.specs.Stages.{IsDue, IsOver, shown}
-use Rattle.judge.specs.declared.world.DueReport.TheVariants as due
-use Rattle.judge.proofs.Reports.{not_done, not_swept, not_stopped}
+use Rattle.judge.proofs.Reports.{not_done, not_swept}
 use Rattle.judge.proofs.Results.{a_fault, no_fault}
 use Rattle.judge.proofs.checks.judge_reset.Goals as goal
 
