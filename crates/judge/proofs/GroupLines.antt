@@ -35,8 +35,10 @@ digits_lack (c ∷ cs) e =
 numbers_lack : (ns : List ℕ) → ((n : ℕ) → Contains ns n → n < 64) → Lacks 124 (number_words ns)
 numbers_lack [] below = tt
 numbers_lack (n ∷ ns) below =
-    lacks_both 124 (number_word n) (number_words ns)
-    (λ h. omega (arith, h), digits_lack (decimal n) (digits_decimal own n (omega (arith, below n (contains_head n ns)))))
+    lacks_both 124 (number_word n) (number_words ns) (
+      λ h. omega (arith, h),
+      digits_lack (decimal n) (digits_decimal own n (omega (arith, below n (contains_head n ns)))),
+    )
     (numbers_lack ns (λ m c. below m (contains_tail n ns m c)))
 
 zones_lack : (g : ZoneSet) → Lacks 124 (number_words (zones_in g))
@@ -185,12 +187,10 @@ read_more text rest others read new group so reads is = record {
     )
 
 -- the last group was read
-pub read_last : (text rest : List ℕ) (read new groups : List ZoneSet) (group : ZoneSet) → ReadSoFar text rest read
-    → ((g : ZoneSet) (gs : List ZoneSet) → rest ≡ groups_text 0 (g ∷ gs)
-    → (SpellsZones g (number_words (zones_in g)) → group ≡ g) × (gs ≡ []))
-    → new ≡ read ++ group ∷ [] → AreListed groups → text ≡ groups_text 0 groups → new ≡ groups
-read_last text rest read new groups group so reads is listed e =
-    let next = next_read text rest read groups so listed e in
+pub read_last : (text rest : List ℕ) (read groups : List ZoneSet) (group : ZoneSet)
+    → IsNextRead text rest read groups → ((g : ZoneSet) (gs : List ZoneSet) → rest ≡ groups_text 0 (g ∷ gs)
+    → (SpellsZones g (number_words (zones_in g)) → group ≡ g) × (gs ≡ [])) → read ++ group ∷ [] ≡ groups
+read_last text rest read groups group next reads =
     let r = reads next.group next.more next.rest_is in
-    is ∙ ap (λ (x : ZoneSet). read ++ x ∷ []) (r.0 next.spells) ∙ ap (λ (xs : List ZoneSet). read ++ next.group ∷ xs) (sym r.1)
-    ∙ sym next.groups_are
+    ap (λ (x : ZoneSet). read ++ x ∷ []) (r.0 next.spells)
+    ∙ ap (λ (xs : List ZoneSet). read ++ next.group ∷ xs) (sym r.1) ∙ sym next.groups_are

@@ -302,7 +302,8 @@ forbidden_order g s old new groups all none = λ zones marking walks stage walks
 
 pub forms_of : (g : GraphState) (s after : Shown) (old new : Judged) (groups : List ZoneSet) → FindsAll g s old new
     → AreParts old.zones groups → AreInOrder g s.former.graph s.cells old new groups
-    → after ≡ record s { stage = collecting new.zones new.marking (Some groups); walks = after.walks }
+    → after
+    ≡ record s { stage = collecting new.zones new.marking (Some groups); left_out = None; walks = after.walks }
     → Forms g s groups after
 forms_of g s after old new groups all parts order is =
     let (none_out, (zones, marking, stage)) = all.due in
@@ -321,8 +322,14 @@ forms_of g s after old new groups all parts order is =
       found = all.walks_are;
       lawful = allowed_of (forming_in g s zones (walks_in old)) old new groups found here order;
       new_is = is
-          ∙ ap (λ (z : ZoneSet). record s { stage = collecting z new.marking (Some groups); walks = after.walks })
-          (zones_same ∙ zones_are)
-          ∙ ap (λ (m : ZoneSet). record s { stage = collecting zones m (Some groups); walks = after.walks })
-          (marking_same ∙ marking_are);
+          ∙ ap (λ (z : ZoneSet). record s {
+            stage = collecting z new.marking (Some groups);
+            left_out = None;
+            walks = after.walks;
+          }) (zones_same ∙ zones_are)
+          ∙ ap (λ (m : ZoneSet). record s {
+            stage = collecting zones m (Some groups);
+            left_out = None;
+            walks = after.walks;
+          }) (marking_same ∙ marking_are);
     }

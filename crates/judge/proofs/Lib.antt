@@ -29,6 +29,7 @@ pub mod Sound
 pub mod Starts
 pub mod Taking
 pub mod GivenUp
+pub mod Resets
 pub mod Lying
 pub mod Freed
 pub mod Determined

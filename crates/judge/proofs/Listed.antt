@@ -1,6 +1,7 @@
 -- Groups that part the zones of a collection have a text that a line can list.
 use Rattle.std.proofs.Common.{◌≡◌, ◌≢◌, ◌↔◌, ◌∙◌, inl, inr, ℕ, ◌+◌, ◌-◌, ◌<◌, ◌≤◌, ◌^◌, List, [], ◌∷◌, ◌++◌}
-use Rattle.std.proofs.Common.{length, get_or, map, Contains, bit_and, eqb, eqb-true, eq-eqb, true, refl, sym, ap, subst, arith}
+use Rattle.std.proofs.Common.{length, get_or, map, Contains, bit_and, eqb, eqb-true, eq-eqb, true, refl, sym, ap}
+use Rattle.std.proofs.Common.{subst, arith}
 use Rattle.std.specs.List.{list_any}
 use Rattle.std.specs.Prelude.{AllPairs, Decides, codes}
 use Rattle.std.proofs.lemmas.Bool.{cases_lt}
@@ -62,7 +63,8 @@ zone_has g z has = (zones_in-has g (zone_of g)).0 (first (zones_in g) ((zones_in
 few_groups : (zones : ZoneSet) (groups : List ZoneSet) → AreParts zones groups → length groups ≤ 64
 few_groups zones groups parts =
     subst (λ n. n ≤ 64) (length-map groups zone_of)
-    (length-le_from_distinct_below (map zone_of groups) 64 (IsDistinct-from_AllPairs same (map zone_of groups) apart) below)
+    (length-le_from_distinct_below (map zone_of groups) 64
+    (IsDistinct-from_AllPairs same (map zone_of groups) apart) below)
   where
     same : (a b : ℕ) → Decides (eqb a b) (a ≡ b)
     same a b = (eqb-true a b, λ e. eq-eqb a b e)
@@ -99,7 +101,7 @@ few_groups zones groups parts =
         let some = parts.full r.0 r.1 in
         subst (λ z. z < 64) r.2 (HasZone-below r.0.bits (zone_of r.0) (zone_has r.0 some.0 some.1))
 
--- the same groups in 64 bits
+-- groups that part the zones, each in 64 bits
 pub listed_of : (zones : ZoneSet) (groups : List ZoneSet) → AreParts zones groups → AreListed (map within groups)
 listed_of zones groups parts = record {
   few = subst (λ n. n ≤ 64) (sym (length-map groups within)) (few_groups zones groups parts);
@@ -134,6 +136,7 @@ pub forbidden_line : (g : GraphState) (s : Shown) (line : List ℕ)
     → (groups : List ZoneSet) → line ≡ report_text (report.Groups groups) → AreForbidden g s groups
 forbidden_line g s line refused groups e = λ zones marking walks stage found w k stands lawful.
     let parts = parts_of (forming_in g s zones walks) w k groups stands lawful in
-    refused (map within groups) (listed_of zones groups parts) (e ∙ ap (λ t. codes "groups" ++ t) (sym (same_text 0 groups)))
+    refused (map within groups) (listed_of zones groups parts)
+    (e ∙ ap (λ t. codes "groups" ++ t) (sym (same_text 0 groups)))
     zones marking walks stage found w k stands
     (subst (λ xs. AreLawfulGroups w k xs) (sym (same_zones groups)) lawful)

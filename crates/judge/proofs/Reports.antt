@@ -16,7 +16,6 @@ use Rattle.judge.specs.Replies.{IsLast, LooksLast}
 use Rattle.judge.specs.Stages.{AreForbidden, IsDue, IsEndedLine, IsFirstGroup, IsOver, IsResetLine, IsToldLine}
 use Rattle.judge.specs.Stages.{IsWrongReport}
 use Rattle.judge.specs.Stages.{IsWrongReportLine, Shown, Stage, collecting, idle, preparing}
-use Rattle.judge.specs.Stages.{unfinished_in}
 use Rattle.judge.specs.Walks.{Walks}
 use Rattle.judge.specs.Whites.{whites_in}
 use Rattle.judge.specs.declared.collection.GroupEnd.{GroupEnd}
@@ -123,35 +122,27 @@ not_ended g s line end knows differs new (group, grays, e, ends) =
     ∙ ap (λ (xs : List Name). report_text (report.Ended end.zones xs [])) names)
 
 -- a line of a reset that is not the one that is due: an arena is out, the collection is over, or it is given up
-pub not_swept : (a : ℕ) (s : Shown) (line : List ℕ) → IsDue (due.Swept a) s
-    → line ≢ report_text (report.Swept a (whites_in s.whites a)) → (new : Shown) → IsResetLine s line new → ⊥
-not_swept a s line (rest, first) differs new (report.Started, e, never) = never
-not_swept a s line (rest, first) differs new (report.Groups groups, e, never) = never
-not_swept a s line (rest, first) differs new (report.Ended group grays told, e, never) = never
-not_swept a s line (rest, first) differs new (report.Swept b freed, e, sweeps) =
+pub not_swept : (a : ℕ) (g : GraphState) (s : Shown) (line : List ℕ) → IsDue (due.Swept a) s
+    → line ≢ report_text (report.Swept a (whites_in s.whites a)) → (new : Shown) → IsResetLine g s line new → ⊥
+not_swept a g s line (rest, first) differs new (report.Started, e, never) = never
+not_swept a g s line (rest, first) differs new (report.Groups groups, e, never) = never
+not_swept a g s line (rest, first) differs new (report.Ended group grays told, e, never) = never
+not_swept a g s line (rest, first) differs new (report.Swept b freed, e, sweeps) =
     let same : b ≡ a = cc (first, sweeps.first) in
     differs (e ∙ ap (λ xs. report_text (report.Swept b xs)) sweeps.freed_are
     ∙ ap (λ n. report_text (report.Swept n (whites_in s.whites n))) same)
-not_swept a s line (rest, first) differs new (report.Done, e, ends) = let over = ends.over in cc (first, over.none_out)
-not_swept a s line (rest, first) differs new (report.Stopped zones, e, stops) = cc (first, stops.none_out)
+not_swept a g s line (rest, first) differs new (report.Done, e, ends) =
+    let over = ends.over in cc (first, over.none_out)
+not_swept a g s line (rest, first) differs new (report.Stopped zones, e, stops) = cc (first, stops.none_out)
 
-pub not_done : (s : Shown) (line : List ℕ) → IsOver s → line ≢ codes "done" → (new : Shown) → IsResetLine s line new → ⊥
-not_done s line over differs new (report.Started, e, never) = never
-not_done s line over differs new (report.Groups groups, e, never) = never
-not_done s line over differs new (report.Ended group grays told, e, never) = never
-not_done s line over differs new (report.Swept b freed, e, sweeps) = cc (over.none_out, sweeps.first)
-not_done s line over differs new (report.Done, e, ends) = differs e
-not_done s line over differs new (report.Stopped zones, e, stops) = stops.not_over over
-
-pub not_stopped : (s : Shown) (line : List ℕ) → s.out ≡ [] → (IsOver s → ⊥)
-    → line ≢ report_text (report.Stopped (unfinished_in s.stage)) → (new : Shown) → IsResetLine s line new → ⊥
-not_stopped s line none not_over differs new (report.Started, e, never) = never
-not_stopped s line none not_over differs new (report.Groups groups, e, never) = never
-not_stopped s line none not_over differs new (report.Ended group grays told, e, never) = never
-not_stopped s line none not_over differs new (report.Swept b freed, e, sweeps) = cc (none, sweeps.first)
-not_stopped s line none not_over differs new (report.Done, e, ends) = not_over ends.over
-not_stopped s line none not_over differs new (report.Stopped zones, e, stops) =
-    differs (e ∙ ap (λ z. report_text (report.Stopped z)) stops.zones_are)
+pub not_done : (g : GraphState) (s : Shown) (line : List ℕ) → IsOver s → line ≢ codes "done" → (new : Shown)
+    → IsResetLine g s line new → ⊥
+not_done g s line over differs new (report.Started, e, never) = never
+not_done g s line over differs new (report.Groups groups, e, never) = never
+not_done g s line over differs new (report.Ended group grays told, e, never) = never
+not_done g s line over differs new (report.Swept b freed, e, sweeps) = cc (over.none_out, sweeps.first)
+not_done g s line over differs new (report.Done, e, ends) = differs e
+not_done g s line over differs new (report.Stopped zones, e, stops) = stops.not_over over
 
 -- a line that begins as a last one does is no report
 same_at : (i : ℕ) (line xs ys : List ℕ) → line ≡ xs → line ≡ ys → get_or xs i 0 ≡ get_or ys i 0

@@ -105,7 +105,7 @@ sound_weak g (weak_command.Unwatch r) due old new asked is = sound_unwatch g (re
 sound_begins : (g : GraphState) (zones : ZoneSet) (begun due : Due) (old new : Shown) → Begins g zones begun old due new
     → IsSound g old → IsSound g new
 sound_begins g zones begun due old new (inl (why, refused, d, same)) is = sound_same g old new same is
-sound_begins g zones begun due old new (inr (idle_is, made, d, same)) is =
+sound_begins g zones begun due old new (inr (idle_is, made, d, left, same)) is =
     subst (IsSound g) (sym same) (record {
       former = is.former;
       none_kept = λ e. is.none_kept idle_is;
@@ -256,7 +256,8 @@ sound_reported g (report.Swept arena freed) old new s is = sound_sweeps g old ne
 sound_reported g report.Done old new f is = sound_idle g old new f.releases (ap (λ (t : Shown). t.walks) f.new_is) is
 sound_reported g (report.Stopped zones) old new s is = absurd s
 
-sound_reset : (g : GraphState) (r : Report) (old new : Shown) → IsResetReport old r new → IsSound g old → IsSound g new
+sound_reset : (g : GraphState) (r : Report) (old new : Shown) → IsResetReport g old r new → IsSound g old
+    → IsSound g new
 sound_reset g report.Started old new s is = absurd s
 sound_reset g (report.Groups groups) old new s is = absurd s
 sound_reset g (report.Ended group grays told) old new s is = absurd s

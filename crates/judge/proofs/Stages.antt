@@ -75,14 +75,30 @@ not_preparing (phase.Collecting k) zones n e = cc e
 
 -- marking has begun
 pub started_is : (old new : Shown) {f : Former} (zones : ZoneSet) (s : Stage) (w : Walks) {m n : Tally}
-    → new ≡ record old { stage = s; former = f; walks = Some w; tally = m } → s ≡ collecting zones zones None → m ≡ n
-    → new ≡ record old { stage = collecting zones zones None; former = new.former; walks = Some w; tally = n }
+    → new ≡ record old { stage = s; left_out = None; former = f; walks = Some w; tally = m }
+    → s ≡ collecting zones zones None → m ≡ n → new ≡ record old {
+      stage = collecting zones zones None;
+      left_out = None;
+      former = new.former;
+      walks = Some w;
+      tally = n;
+    }
 started_is old new {f = f} zones s w {m = m} {n = n} e stage counted = e
-    ∙ ap (λ (k : Stage). record old { stage = k; former = f; walks = Some w; tally = m }) stage
-    ∙ ap (λ (t : Tally). record old { stage = collecting zones zones None; former = f; walks = Some w; tally = t })
-    counted
-    ∙ ap (λ (h : Former). record old { stage = collecting zones zones None; former = h; walks = Some w; tally = n })
-    (sym (ap (λ (t : Shown). t.former) e))
+    ∙ ap (λ (k : Stage). record old { stage = k; left_out = None; former = f; walks = Some w; tally = m }) stage
+    ∙ ap (λ (t : Tally). record old {
+      stage = collecting zones zones None;
+      left_out = None;
+      former = f;
+      walks = Some w;
+      tally = t;
+    }) counted
+    ∙ ap (λ (h : Former). record old {
+      stage = collecting zones zones None;
+      left_out = None;
+      former = h;
+      walks = Some w;
+      tally = n;
+    }) (sym (ap (λ (t : Shown). t.former) e))
 
 -- no groups are left where none is marking
 pub none_left : (p : Phase) → ((k : Collection) → p ≡ phase.Collecting k → ⊥) → IsTrue false ↔ HasGroups (stage_of p)

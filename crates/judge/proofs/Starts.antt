@@ -1,13 +1,19 @@
 -- The cells from which marking begins.
-use Rattle.std.proofs.Common.{◌≡◌, ◌⊎◌, inl, inr, ℕ, ◌+◌, ◌<◌, List, [], ◌∷◌, ◌++◌, Contains, Option, Some}
-use Rattle.std.proofs.Common.{length, get_or, take, subst, sym, arith}
+use Rattle.std.proofs.Common.{◌≡◌, ◌⊎◌, ◌↔◌, ◌∙◌, true, inl, inr, ℕ, ◌+◌, ◌<◌, List, [], ◌∷◌, ◌++◌, Contains}
+use Rattle.std.proofs.Common.{Option, Some, length, get_or, take, subst, sym, arith}
 use Rattle.std.proofs.lemmas.Bool.{cases_eq}
 use Rattle.std.proofs.lemmas.List.Elements.{Contains-append_cases, Contains-append_left, Contains-append_right}
 use Rattle.std.proofs.lemmas.List.Elements.{Contains-push, Contains-push_cases}
+use Rattle.std.specs.BTreeSet as sorted
+use Rattle.std.specs.BTreeSet.{BTreeSet}
 use Rattle.gz_names.specs.declared.names.Name.{Name}
+use Rattle.plain_graph.specs.Indexed.{order_of}
+use Rattle.plain_graph.proofs.Walks.{take_cases, take_new, take_old}
 use Rattle.colour_defs.proofs.Lists.{nothing_in_none}
-use Rattle.plain_graph.proofs.Walks.{take_new, take_old}
 use Rattle.judge.specs.Starts.{IsListOf}
+use Rattle.judge.specs.Walks.{IsLeftBlack}
+use Rattle.judge.proofs.Cells.{apart}
+use Rattle.judge.proofs.Watching.{same_or_not}
 
 -- two lists
 pub list_joined : (xs ys zs : List Name) (P Q : Name → Type 0) → zs ≡ xs ++ ys → IsListOf xs P → IsListOf ys Q
@@ -60,12 +66,22 @@ held_skip held n xs e are x = (
   ],
 )
 
--- some of the names so far, one name more
-pub some_more : (names : List Name) (i : ℕ) (d : Name) (xs zs : List Name) → i < length names
-    → zs ≡ xs ++ get_or names i d ∷ [] → ((x : Name) → Contains xs x → Contains (take i names) x) → (x : Name)
-    → Contains zs x → Contains (take (i + 1) names) x
-some_more names i d xs zs below e are x c =
-    elim (Contains-push_cases xs (get_or names i d) x (subst (λ ns. Contains ns x) e c)) [
-      | inl o ↦ take_old names i d x below (are x o)
-      | inr same ↦ take_new names i d x below same
+-- a name more is put into a set
+pub put_more : (old new : BTreeSet Name) (names : List Name) (i : ℕ) (d : Name) → i < length names
+    → ((x : Name) → IsLeftBlack (Some old) x ↔ Contains (take i names) x)
+    → sorted.Updates order_of old new (get_or names i d) true → (x : Name)
+    → IsLeftBlack (Some new) x ↔ Contains (take (i + 1) names) x
+put_more old new names i d below are up x = (
+  λ has. elim (same_or_not (get_or names i d) x) [
+    | inl same ↦ take_new names i d x below same
+    | inr other ↦ take_old names i d x below
+        ((are x).0 (sym (up.2 x (apart (get_or names i d) x other)) ∙ has))
+  ],
+  λ c. elim (same_or_not (get_or names i d) x) [
+    | inl same ↦ subst (λ (y : Name). IsLeftBlack (Some new) y) same up.1
+    | inr other ↦ elim (take_cases names i d x below c) [
+      | inl o ↦ up.2 x (apart (get_or names i d) x other) ∙ (are x).1 o
+      | inr same ↦ absurd (other same)
     ]
+  ],
+)

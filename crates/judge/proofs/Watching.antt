@@ -25,7 +25,7 @@ unwatches_of old new x slots up =
     record { slots_are = slots; here = up.1; others = λ y n. up.2 y (apart x y n) }
 
 -- names that are the same, or differ
-same_or_not : (x y : Name) → (x ≡ y) ⊎ (x ≡ y → ⊥)
+pub same_or_not : (x y : Name) → (x ≡ y) ⊎ (x ≡ y → ⊥)
 same_or_not x y = go (is_eq (order_of x y)) refl
   where
     go : (b : Bool) → is_eq (order_of x y) ≡ b → (x ≡ y) ⊎ (x ≡ y → ⊥)

@@ -30,6 +30,7 @@ use Rattle.judge.specs.Stages.{Stage, idle, preparing, collecting, Shown, IsFirs
 use Rattle.judge.specs.Running.{HasUnits}
 use Rattle.judge.specs.Stages.{IsWrongReportLine}
 use Rattle.judge.specs.Stages.{IsResetLine, Obeys, Spends, TakesNamed}
+use Rattle.judge.specs.Starts.{LeavesOut}
 use Rattle.judge.specs.Weak.{Unwatches, Watches, is_watched, weak_slot, with_weak_slot}
 use Rattle.judge.specs.declared.answers.Awaited.{Awaited}
 use Rattle.judge.specs.declared.answers.Awaited.TheVariants as awaited
@@ -75,8 +76,10 @@ abbrev pub Begins : GraphState → ZoneSet → Due → Shown → Due → Shown �
 Begins g zones begun old due new =
     ((why : Refusal) × IsRefusal (AreMade g zones) old.stage why × (due ≡ refused why) × (new ≡ old))
     ⊎ ((old.stage ≡ idle) × AreMade g zones × (due ≡ begun)
+    × LeavesOut g (zones_in zones) old.cells old.black.names new.left_out
     × (new ≡ record old {
       stage = preparing zones;
+      left_out = new.left_out;
       walks = None;
       tally = with_arenas (arena_count (zones_in zones) old.owners);
     }))
@@ -225,7 +228,7 @@ IsAnswered g old (units most collects reports) line new next =
     (IsReportedLine g old line new × (more : ℕ) × Counts reports line more × HasUnits most more
     × (next ≡ units most collects more))
     ⊎ (IsLast most collects reports old line new × (next ≡ nothing))
-IsAnswered g old resets line new next = IsResetLine old line new × (next ≡ after_reset new.stage)
+IsAnswered g old resets line new next = IsResetLine g old line new × (next ≡ after_reset new.stage)
 
 -- a line that is wrong where this is due: it is not the one that is due, no right last line, and no right report, or
 -- one more than a slice has units
@@ -236,7 +239,7 @@ IsWrongAnswer g s (dump lines) line = (next : Due) → IsDumped lines line next 
 IsWrongAnswer g s (units most collects reports) line =
     ((new : Shown) → IsLast most collects reports s line new → ⊥)
     × ((more : ℕ) → Counts reports line more → HasUnits most more → IsWrongReportLine g s line)
-IsWrongAnswer g s resets line = (new : Shown) → IsResetLine s line new → ⊥
+IsWrongAnswer g s resets line = (new : Shown) → IsResetLine g s line new → ⊥
 
 -- what is due while this is awaited
 abbrev pub due_as : Awaited → Due

@@ -1,7 +1,8 @@
 -- How far a collection is, by its zones, its groups and the arenas that are out; and what a report makes of it.
 use Rattle.std.specs.Prelude.{◌≡◌, ◌↔◌, ℕ, ◌+◌, List, [], ◌∷◌, ◌++◌, Bool, true, false, reverse, slice_get, Option}
-use Rattle.std.specs.Prelude.{Some, None, Vec, IsTrue, ◌⊎◌, ⊤, map, replicate}
+use Rattle.std.specs.Prelude.{Some, None, Vec, Contains, IsTrue, ◌⊎◌, ⊤, map, replicate}
 use Rattle.std.specs.BTreeMap as tree
+use Rattle.std.specs.BTreeSet.{BTreeSet}
 use Rattle.std.specs.declared.alloc.Global.{Global}
 use Rattle.gz_names.specs.Zones.{HasZone, zones_in}
 use Rattle.gz_names.specs.declared.zone_sets.ZoneSet.{ZoneSet}
@@ -13,7 +14,7 @@ use Rattle.gz_names.specs.declared.replies.Report.{Report}
 use Rattle.gz_names.specs.declared.replies.Report.TheVariants as report
 use Rattle.gz_names.specs.declared.commands.GraphCmd.{GraphCmd}
 use Rattle.colour_defs.specs.Ends.{Lists, arenas_from}
-use Rattle.colour_defs.specs.Graph.{GraphState, empty_graph, zone_of}
+use Rattle.colour_defs.specs.Graph.{GraphState, IsInZones, empty_graph, zone_of}
 use Rattle.colour_defs.specs.Step.{refusal_in, step_of, with_register}
 use Rattle.colour_defs.specs.Units.{MeetsUnitBound, Tally, sweeps_in, unit_limit, with_put, with_woken}
 use Rattle.colour_defs.specs.World.{woken_by}
@@ -24,10 +25,11 @@ use Rattle.judge.specs.Former.{IsFormer, Keeps, Releases, Takes}
 use Rattle.judge.specs.Bounds.{IsFirstTally, is_accepted, marking_tally, put_if, tally_of, with_sweep, with_units}
 use Rattle.judge.specs.Parts.{AreParts}
 use Rattle.judge.specs.Groups.{AreAllowed, AreRefused, Forming}
-use Rattle.judge.specs.Starts.{IsBegun}
+use Rattle.judge.specs.Starts.{IsBegun, IsListOf}
 use Rattle.plain_graph.specs.Indexed.{order_of}
-use Rattle.plain_graph.specs.Reach.{WalkState}
-use Rattle.judge.specs.Walks.{CatchUp, CatchesUp, GoesOnFrom, Walks, walks_of}
+use Rattle.plain_graph.specs.Reach.{IsDone, WalkState}
+use Rattle.judge.specs.Walks.{CatchUp, CatchesUp, GoesOnFrom, IsFoundBlack, IsLeftBlack, Walks, left_out_of}
+use Rattle.judge.specs.Walks.{walks_of}
 use Rattle.judge.specs.Weak.{AreUnwatched, IsWatched, if_present}
 use Rattle.judge.specs.Whites.{Clears, lies_in, whites_in}
 use Rattle.judge.specs.declared.whites.Whites.{Whites}
@@ -50,9 +52,10 @@ pub data Stage : Type 0 where
   collecting : ZoneSet → ZoneSet → Option (List ZoneSet) → Stage
 
 -- a stage, whose the arenas are, those that are out, the lowest first, and the white cells that are not yet swept; the
--- present cells, what is black while no zone is marking, the graph as it stood when marking began, and what was found
--- since; what is counted for the bound on units; what weak slots name and which cells are watched; and the watched
--- cells that died with the group that ended last, until a line tells them
+-- present cells, what is black while no zone is marking, and of the zones that are left out while others are being
+-- prepared; the graph as it stood when marking began, and what was found since; what is counted for the bound on units;
+-- what weak slots name and which cells are watched; and the watched cells that died with the group that ended last,
+-- until a line tells them
 pub record Shown : Type 0 where
   pub stage : Stage
   pub owners : List (Option ℕ)
@@ -60,6 +63,7 @@ pub record Shown : Type 0 where
   pub whites : Whites
   pub cells : Cells
   pub black : WalkState
+  pub left_out : Option (BTreeSet Name)
   pub former : Former
   pub walks : Option Walks
   pub tally : Tally
@@ -87,6 +91,7 @@ shown w = record {
   whites = w.whites;
   cells = w.places;
   black = w.black;
+  left_out = left_out_of w.phase;
   former = w.former;
   walks = walks_of w.phase;
   tally = tally_of w.tally;
@@ -209,11 +214,12 @@ pub record IsOver (s : Shown) : Type 0 where
 -- the marking of these zones begins
 pub record IsStarted (g : GraphState) (zones : ZoneSet) (old new : Shown) : Type 0 where
   pub walks : Walks
-  pub begun : IsBegun g (zones_in zones) old.cells walks
+  pub begun : IsBegun g (zones_in zones) old.cells old.left_out walks
   pub keeps : Keeps old.former new.former
   pub counted : IsFirstTally g zones old.cells old.tally new.tally
   pub new_is : new ≡ record old {
     stage = collecting zones zones None;
+    left_out = None;
     former = new.former;
     walks = Some walks;
     tally = marking_tally g (zones_in zones) old.cells old.tally;
@@ -241,7 +247,8 @@ pub record Forms (g : GraphState) (old : Shown) (groups : List ZoneSet) (new : S
   pub walks : Walks
   pub found : old.walks ≡ Some walks
   pub lawful : AreAllowed (forming_in g old zones walks) groups
-  pub new_is : new ≡ record old { stage = collecting zones marking (Some groups); walks = new.walks }
+  pub new_is : new
+      ≡ record old { stage = collecting zones marking (Some groups); left_out = None; walks = new.walks }
 
 -- these groups may not be formed: they are not lawful
 abbrev pub AreForbidden : GraphState → Shown → List ZoneSet → Type 0
@@ -320,15 +327,37 @@ pub record Sweeps (old : Shown) (arena : ℕ) (freed : List Name) (new : Shown) 
 pub record Finishes (old new : Shown) : Type 0 where
   pub over : IsOver old
   pub releases : Releases old.former new.former
-  pub new_is : new ≡ record old { stage = idle; former = new.former; walks = None }
+  pub new_is : new ≡ record old { stage = idle; left_out = None; former = new.former; walks = None }
+
+-- what is black by what a collection has found so far
+abbrev pub IsBlackSoFar : Stage → Shown → Name → Type 0
+IsBlackSoFar idle s x = Contains s.black.names x
+IsBlackSoFar (preparing zones) s x = IsLeftBlack s.left_out x
+IsBlackSoFar (collecting zones marking groups) s x =
+    (w : Walks) × (s.walks ≡ Some w) × IsFoundBlack s.former.graph w x
+
+-- where a collection is given up, this turns black: the present cells of the zones that were being prepared or were
+-- marking, those that are black so far, and what is reached from there
+pub record BlackensRest (g : GraphState) (old : Shown) (black : WalkState) : Type 0 where
+  pub starts : List Name
+  pub starts_are : IsListOf starts
+      (λ x. HasCell old.cells x × (IsInZones g (zones_in (unfinished_in old.stage)) x ⊎ IsBlackSoFar old.stage old x))
+  pub done : IsDone g starts black
 
 -- a collection that is not over is given up, with no arena out, while these zones are being prepared or are marking
-pub record Stops (old : Shown) (zones : ZoneSet) (new : Shown) : Type 0 where
+pub record Stops (g : GraphState) (old : Shown) (zones : ZoneSet) (new : Shown) : Type 0 where
   pub none_out : old.out ≡ []
   pub not_over : IsOver old → ⊥
   pub zones_are : zones ≡ unfinished_in old.stage
   pub releases : Releases old.former new.former
-  pub new_is : new ≡ record old { stage = idle; black = new.black; former = new.former; walks = None }
+  pub blackens : BlackensRest g old new.black
+  pub new_is : new ≡ record old {
+    stage = idle;
+    black = new.black;
+    left_out = None;
+    former = new.former;
+    walks = None;
+  }
 
 -- a report of a unit
 abbrev pub IsReported : GraphState → Shown → Report → Shown → Type 0
@@ -376,17 +405,17 @@ IsEndedLine g old line new =
     × EndsGroup g old group grays new
 
 -- a report of a reset
-abbrev pub IsResetReport : Shown → Report → Shown → Type 0
-IsResetReport old report.Started new = ⊥
-IsResetReport old (report.Groups groups) new = ⊥
-IsResetReport old (report.Ended group grays told) new = ⊥
-IsResetReport old (report.Swept arena freed) new = Sweeps old arena freed new
-IsResetReport old report.Done new = Finishes old new
-IsResetReport old (report.Stopped zones) new = Stops old zones new
+abbrev pub IsResetReport : GraphState → Shown → Report → Shown → Type 0
+IsResetReport g old report.Started new = ⊥
+IsResetReport g old (report.Groups groups) new = ⊥
+IsResetReport g old (report.Ended group grays told) new = ⊥
+IsResetReport g old (report.Swept arena freed) new = Sweeps old arena freed new
+IsResetReport g old report.Done new = Finishes old new
+IsResetReport g old (report.Stopped zones) new = Stops g old zones new
 
 -- a line that is a report of a reset
-abbrev pub IsResetLine : Shown → List ℕ → Shown → Type 0
-IsResetLine old line new = (r : Report) × (line ≡ report_text r) × IsResetReport old r new
+abbrev pub IsResetLine : GraphState → Shown → List ℕ → Shown → Type 0
+IsResetLine g old line new = (r : Report) × (line ≡ report_text r) × IsResetReport g old r new
 
 -- the first group of this stage
 abbrev pub IsFirstGroup : Stage → ZoneSet → Type 0

@@ -1,8 +1,11 @@
--- What a collection has found black and live.
-use Rattle.std.specs.Prelude.{◌≡◌, ◌⊎◌, List, [], ◌++◌, Option, Some, None, Contains}
+-- What a collection has found black and live, and what is black before it begins to mark.
+use Rattle.std.specs.Prelude.{◌≡◌, ◌⊎◌, ℕ, List, [], ◌++◌, Option, Some, None, Contains, IsTrue}
+use Rattle.std.specs.BTreeSet as sorted
+use Rattle.std.specs.BTreeSet.{BTreeSet}
 use Rattle.gz_names.specs.declared.names.Name.{Name}
-use Rattle.colour_defs.specs.Graph.{GraphState}
+use Rattle.colour_defs.specs.Graph.{GraphState, IsInZones}
 use Rattle.colour_defs.specs.Closure.{Closure}
+use Rattle.plain_graph.specs.Indexed.{order_of}
 use Rattle.plain_graph.specs.Reach.{Follows, IsDone, WalkState}
 use Rattle.judge.specs.declared.collection.Collection.{Collection}
 use Rattle.judge.specs.declared.world.Phase.{Phase}
@@ -21,6 +24,26 @@ abbrev pub walks_of : Phase → Option Walks
 walks_of phase.Idle = None
 walks_of (phase.Preparing p) = None
 walks_of (phase.Collecting k) = Some (walks_in k)
+
+-- what is black of the zones that a collection leaves out, while its own are being prepared
+abbrev pub left_out_of : Phase → Option (BTreeSet Name)
+left_out_of phase.Idle = None
+left_out_of (phase.Preparing p) = Some p.black.names
+left_out_of (phase.Collecting k) = None
+
+abbrev pub IsLeftBlack : Option (BTreeSet Name) → Name → Type 0
+IsLeftBlack None x = ⊥
+IsLeftBlack (Some names) x = IsTrue (sorted.contains order_of names x)
+
+-- what is black by what a collection has found so far, beside what is black where none runs
+abbrev pub IsBlackBy : Phase → WalkState → Name → Type 0
+IsBlackBy phase.Idle black x = Contains black.names x
+IsBlackBy (phase.Preparing p) black x = IsLeftBlack (Some p.black.names) x
+IsBlackBy (phase.Collecting k) black x = Contains k.black.names x
+
+-- a name is of these zones, or is black
+abbrev pub TurnsBlack : GraphState → List ℕ → Phase → WalkState → Name → Type 0
+TurnsBlack g zones p black x = IsInZones g zones x ⊎ IsBlackBy p black x
 
 -- what was found black in this graph, and what live
 abbrev pub IsFoundBlack : GraphState → Walks → Name → Type 0

@@ -362,6 +362,7 @@ fn units_line(
 }
 
 fn reset_line(graph: &Graph, world: &mut World, text: &[u8]) -> Result<Judgement, NoMemory>
+    requires { IsSound graph.now (shown world.old) }
     ensures { IfOk result (IsJudgedLine graph.now (shown world.old) resets text.now (shown world.new)) }
 {
     if let Some(kind) = checks::judge_reset(graph, world, text)? {

@@ -53,10 +53,11 @@ pub fn judge_report(graph: &Graph, world: &mut World, line: &[u8]) -> Result<Fau
 
 /// Judges a line as the next report of a reset, and does what the report does.
 pub fn judge_reset(graph: &Graph, world: &mut World, line: &[u8]) -> Result<Fault, NoMemory>
-    ensures right { IfOk result (λ fault. IfNone fault (IsResetLine (shown world.old) line.now
+    requires { IsSound graph.now (shown world.old) }
+    ensures right { IfOk result (λ fault. IfNone fault (IsResetLine graph.now (shown world.old) line.now
         (shown world.new))) }
     ensures wrong { IfOk result (λ fault. IfSome fault (λ _. (new : Shown)
-        → IsResetLine (shown world.old) line.now new → ⊥)) }
+        → IsResetLine graph.now (shown world.old) line.now new → ⊥)) }
 {
     match world.due_report() {
         DueReport::Swept(arena) => swept(world, arena, line),
@@ -89,8 +90,10 @@ fn started(graph: &Graph, world: &mut World, line: &[u8]) -> Result<Fault, NoMem
 fn stopped(graph: &Graph, world: &mut World, line: &[u8]) -> Result<Fault, NoMemory>
     requires none_out { (shown world.old).out ≡ [] }
     requires not_over { IsOver (shown world.old) → ⊥ }
+    requires sound { IsSound graph.now (shown world.old) }
     ensures right { IfOk result (λ fault. IfNone fault ((zones : AZoneSet)
-        × (line.now ≡ report_text (the_report.Stopped zones)) × Stops (shown world.old) zones (shown world.new))) }
+        × (line.now ≡ report_text (the_report.Stopped zones))
+        × Stops graph.now (shown world.old) zones (shown world.new))) }
     ensures wrong { IfOk result (λ fault. IfSome fault (λ _.
         line.now ≢ report_text (the_report.Stopped (unfinished_in (shown world.old).stage)))) }
 {

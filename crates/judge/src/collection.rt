@@ -1,6 +1,6 @@
 // A collection: its zones, what it finds black and live, its groups, and how many units it may take.
-ghost use Rattle.std.specs.Prelude.{◌≡◌, ◌↔◌, ◌<◌, ◌++◌, ℕ, Contains, IfNone, IfOk, IfSome, IsTrue, List, None, OnOk};
-ghost use Rattle.std.specs.Prelude.{Some, drop, filter, map, reverse};
+ghost use Rattle.std.specs.Prelude.{◌≡◌, ◌↔◌, ◌<◌, ◌++◌, ℕ, [], Contains, IfNone, IfOk, IfSome, IsTrue, List, None};
+ghost use Rattle.std.specs.Prelude.{OnOk, Some, drop, filter, map, reverse};
 ghost use Rattle.gz_names.specs.Zones.{zones_in};
 ghost use Rattle.gz_names.specs.declared.names.Name.{Name as AName};
 ghost use Rattle.gz_names.specs.declared.zone_sets.ZoneSet.{ZoneSet as AZoneSet};
@@ -12,14 +12,16 @@ ghost use Rattle.judge.specs.Cells.{Cells, HasCell, HasColours, HasShade, IsGray
 ghost use Rattle.judge.specs.Bounds.{tally_of, with_sweep};
 ghost use Rattle.judge.specs.Edges.{Leads, sources_of};
 ghost use Rattle.judge.specs.Former.{Releases};
-ghost use Rattle.judge.specs.Sound.{Settles};
-ghost use Rattle.judge.specs.Stages.{Ends, HasGroups, IsDueOf, IsFirstGroup, IsWoken, collecting, groups_in};
+ghost use Rattle.judge.specs.Sound.{IsSound, Settles};
+ghost use Rattle.judge.specs.Stages.{BlackensRest, Ends, HasGroups, IsDueOf, IsFirstGroup, IsOver, IsWoken};
+ghost use Rattle.judge.specs.Stages.{collecting, groups_in, unfinished_in};
 ghost use Rattle.judge.specs.Stages.{idle, shown, stage_in, stage_of};
-ghost use Rattle.judge.specs.Walks.{CatchUp, CatchesUp, GoesOnFrom, Walks as AWalks, walks_in, walks_of};
+ghost use Rattle.judge.specs.Walks.{CatchUp, CatchesUp, GoesOnFrom, TurnsBlack, Walks as AWalks, left_out_of};
+ghost use Rattle.judge.specs.Walks.{walks_in, walks_of};
 ghost use Rattle.judge.specs.Weak.{AreUnwatched, if_present, is_watched};
 ghost use Rattle.judge.specs.Whites.{AreByArena, Clears};
-ghost use Rattle.judge.specs.Starts.{AreBlackStarts, AreLiveStarts, IsBegun, IsInRegister, IsInSlot, IsListOf};
-ghost use Rattle.judge.specs.Starts.{IsOutside};
+ghost use Rattle.judge.specs.Starts.{AreBlackStarts, AreLiveStarts, IsBegun, IsBlackOutside, IsInRegister};
+ghost use Rattle.judge.specs.Starts.{IsInSlot, IsListOf, IsOutside};
 
 use crate::former::is_in;
 use crate::preparation::Preparation;
@@ -185,22 +187,35 @@ fn outside(
     Ok(names)
 }
 
-// Those of some names that are black in a zone that a preparation leaves out.
-fn blacks_of(
-    alloc: Global,
-    preparation: &Preparation,
-    names: &[Name],
-) -> Result<Vec<Name>, NoMemory>
-    ensures { IfOk result (λ blacks. (x : AName) → Contains blacks.items x → Contains names.now x) }
+// Whether a name is black, and of a zone that a preparation leaves out.
+fn is_left_black(graph: &Graph, preparation: &Preparation, name: Name) -> bool
+    ensures { IsTrue result ↔ IsBlackOutside graph.now (zones_in preparation.now.zones)
+        (Some preparation.now.black.names) name }
 {
-    let mut blacks = Vec::new(alloc);
-    for name in names {
-        if !preparation.black.contains(*name) {
+    if is_in(graph, preparation.zones, name) {
+        return false;
+    }
+    preparation.black.contains(name)
+}
+
+// The present cells that are black in zones that a preparation leaves out.
+fn left_blacks(
+    alloc: Global,
+    graph: &Graph,
+    preparation: &Preparation,
+    places: &BTreeMap<Name, Place>,
+) -> Result<Vec<Name>, NoMemory>
+    ensures { IfOk result (λ names. IsListOf names.items (λ x. HasCell places.now x
+        × IsBlackOutside graph.now (zones_in preparation.now.zones) (Some preparation.now.black.names) x)) }
+{
+    let mut names = Vec::new(alloc);
+    for (name, _) in places {
+        if !is_left_black(graph, preparation, *name) {
             continue;
         }
-        blacks.push(*name)?;
+        names.push(*name)?;
     }
-    Ok(blacks)
+    Ok(names)
 }
 
 fn joined(first: &[Name], second: Vec<Name>) -> Result<Vec<Name>, NoMemory>
@@ -219,11 +234,11 @@ fn black_starts(
     places: &BTreeMap<Name, Place>,
 ) -> Result<Vec<Name>, NoMemory>
     ensures { IfOk result (λ names.
-        AreBlackStarts graph.now (zones_in preparation.now.zones) places.now names.items) }
+        AreBlackStarts graph.now (zones_in preparation.now.zones) places.now (Some preparation.now.black.names)
+        names.items) }
 {
     let held = in_registers(alloc, graph)?;
-    let others = outside(alloc, graph, preparation.zones, places)?;
-    let blacks = blacks_of(alloc, preparation, others.as_slice())?;
+    let blacks = left_blacks(alloc, graph, preparation, places)?;
     joined(blacks.as_slice(), held)
 }
 
@@ -254,7 +269,8 @@ impl Collection {
         ensures stage { let zones = preparation.now.zones in
             IfOk result (λ it. stage_in it ≡ collecting zones zones None) }
         ensures begun { IfOk result
-            (λ it. IsBegun graph.now (zones_in preparation.now.zones) places.now (walks_in it)) }
+            (λ it. IsBegun graph.now (zones_in preparation.now.zones) places.now (Some preparation.now.black.names)
+            (walks_in it)) }
     {
         let zones = preparation.zones;
         let starts = black_starts(alloc, graph, preparation, places)?;
@@ -622,7 +638,7 @@ impl World {
     /// The collection is over.
     pub fn finish(&mut self) -> Result<(), NoMemory>
         ensures shows { OnOk result (shown self.new
-            ≡ record (shown self.old) { stage = idle; former = self.new.former; walks = None }) }
+            ≡ record (shown self.old) { stage = idle; left_out = None; former = self.new.former; walks = None }) }
         ensures releases { OnOk result (Releases self.old.former self.new.former) }
     {
         self.enter(Phase::Idle);
@@ -632,14 +648,19 @@ impl World {
 
     /// The collection is given up.
     pub fn stop(&mut self, graph: &Graph) -> Result<(), NoMemory>
+        requires none_out { (shown self.old).out ≡ [] }
+        requires not_over { IsOver (shown self.old) → ⊥ }
+        requires sound { IsSound graph.now (shown self.old) }
         ensures shows { OnOk result (shown self.new
             ≡ record (shown self.old) {
               stage = idle;
               black = self.new.black;
+              left_out = None;
               former = self.new.former;
               walks = None;
             }) }
         ensures releases { OnOk result (Releases self.old.former self.new.former) }
+        ensures blackens { OnOk result (BlackensRest graph.now (shown self.old) self.new.black) }
     {
         self.catch_up()?;
         self.black = self.black_where_given_up(graph)?;
@@ -650,7 +671,11 @@ impl World {
 
     // A collection that runs finds what the names woken reach.
     fn catch_up(&mut self) -> Result<(), NoMemory>
-        ensures { OnOk result (self.new ≡ record self.old { phase = self.new.phase }) }
+        ensures rest { OnOk result (self.new ≡ record self.old { phase = self.new.phase }) }
+        ensures stage { OnOk result (stage_of self.new.phase ≡ stage_of self.old.phase) }
+        ensures left_out { OnOk result (left_out_of self.new.phase ≡ left_out_of self.old.phase) }
+        ensures walks { OnOk result (CatchUp self.old.former.graph (walks_of self.old.phase)
+            (walks_of self.new.phase)) }
     {
         match &mut self.phase {
             Phase::Collecting(collection) => collection.catch_up(self.former.graph()),
@@ -658,17 +683,39 @@ impl World {
         }
     }
 
+    // Whether a name is of a zone that was not finished, or was found black.
+    fn turns_black(&self, graph: &Graph, zones: ZoneSet, name: Name) -> bool
+        ensures { IsTrue result ↔ TurnsBlack graph.now (zones_in zones) self.now.phase self.now.black name }
+    {
+        if is_in(graph, zones, name) {
+            return true;
+        }
+        self.is_black_so_far(name)
+    }
+
+    // The present cells that are of these zones or were found black.
+    fn all_turning_black(&self, graph: &Graph, zones: ZoneSet) -> Result<Vec<Name>, NoMemory>
+        ensures { IfOk result (λ names. IsListOf names.items (λ x. HasCell self.now.places x
+            × TurnsBlack graph.now (zones_in zones) self.now.phase self.now.black x)) }
+    {
+        let mut names = Vec::new(self.alloc);
+        for (name, _) in &self.places {
+            if !self.turns_black(graph, zones, *name) {
+                continue;
+            }
+            names.push(*name)?;
+        }
+        Ok(names)
+    }
+
     // What is present in the zones that were not finished turns black, and what is reached from there and from what was
     // found black.
-    fn black_where_given_up(&self, graph: &Graph) -> Result<Walk, NoMemory> {
-        let zones = self.unfinished();
-        let mut black = Walk::new(self.alloc);
-        for (name, _) in &self.places {
-            if is_in(graph, zones, *name) || self.is_black_so_far(*name) {
-                black.add(*name, None)?;
-            }
-        }
-        black.finish(graph)?;
-        Ok(black)
+    fn black_where_given_up(&self, graph: &Graph) -> Result<Walk, NoMemory>
+        ensures { IfOk result (λ black. (starts : List AName) × IsListOf starts (λ x. HasCell self.now.places x
+            × TurnsBlack graph.now (zones_in (unfinished_in (stage_of self.now.phase))) self.now.phase
+            self.now.black x) × IsDone graph.now starts black) }
+    {
+        let starts = self.all_turning_black(graph, self.unfinished())?;
+        walk_from(self.alloc, starts.as_slice(), graph)
     }
 }

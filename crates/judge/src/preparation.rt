@@ -1,5 +1,10 @@
 // A collection between `gc` and `started`: its zones are being prepared, and nothing is marked yet.
-ghost use Rattle.std.specs.Prelude.{◌≡◌, IfOk};
+ghost use Rattle.std.specs.Prelude.{◌≡◌, ◌↔◌, Contains, IfOk, IsTrue, Some};
+ghost use Rattle.gz_names.specs.Zones.{zones_in};
+ghost use Rattle.gz_names.specs.declared.names.Name.{Name as AName};
+ghost use Rattle.judge.specs.Cells.{HasCell};
+ghost use Rattle.judge.specs.Starts.{IsBlackElsewhere, IsListOf, LeavesOut};
+ghost use Rattle.judge.specs.Walks.{IsLeftBlack};
 
 use crate::former::{fields_of, is_in};
 use gz_names::{Name, NoMemory, Place, ZoneSet};
@@ -32,6 +37,47 @@ pub fn target_of(name: Name) -> Name {
     }
 }
 
+// Whether a name is black, and of none of these zones.
+fn is_black_outside(graph: &Graph, zones: ZoneSet, black: &Walk, name: Name) -> bool
+    ensures { IsTrue result ↔ IsBlackElsewhere graph.now (zones_in zones) black.now.names name }
+{
+    if is_in(graph, zones, name) {
+        return false;
+    }
+    black.contains(name)
+}
+
+// The present cells that are black, and of none of these zones.
+fn blacks_outside(
+    alloc: Global,
+    graph: &Graph,
+    zones: ZoneSet,
+    places: &BTreeMap<Name, Place>,
+    black: &Walk,
+) -> Result<Vec<Name>, NoMemory>
+    ensures { IfOk result (λ names. IsListOf names.items (λ x. HasCell places.now x
+        × IsBlackElsewhere graph.now (zones_in zones) black.now.names x)) }
+{
+    let mut names = Vec::new(alloc);
+    for (name, _) in places {
+        if !is_black_outside(graph, zones, black, *name) {
+            continue;
+        }
+        names.push(*name)?;
+    }
+    Ok(names)
+}
+
+fn set_of(alloc: Global, names: &[Name]) -> Result<BTreeSet<Name>, NoMemory>
+    ensures { IfOk result (λ set. (x : AName) → IsLeftBlack (Some set) x ↔ Contains names.now x) }
+{
+    let mut set = BTreeSet::new(alloc);
+    for name in names {
+        set.insert(*name)?;
+    }
+    Ok(set)
+}
+
 impl Preparation {
     /// The preparation of these zones begins: what is black in them counts no longer.
     pub fn new(
@@ -41,27 +87,26 @@ impl Preparation {
         places: &BTreeMap<Name, Place>,
         black: &Walk,
     ) -> Result<Self, NoMemory>
-        ensures { IfOk result (λ it. it.zones ≡ zones) }
+        ensures zones { IfOk result (λ it. it.zones ≡ zones) }
+        ensures left_out { IfOk result (λ it. LeavesOut graph.now (zones_in zones) places.now black.now.names
+            (Some it.black.names)) }
     {
-        let mut left_out = LeftOut {
-            zones,
-            names: BTreeSet::new(alloc),
-            found: Vec::new(alloc),
-        };
-        for (name, _) in places {
-            if black.contains(*name) && !is_in(graph, zones, *name) {
-                left_out.names.insert(*name)?;
-            }
-        }
+        let names = blacks_outside(alloc, graph, zones, places, black)?;
         Ok(Preparation {
             zones,
-            black: left_out,
+            black: LeftOut {
+                zones,
+                names: set_of(alloc, names.as_slice())?,
+                found: Vec::new(alloc),
+            },
         })
     }
 }
 
 impl LeftOut {
-    pub fn contains(&self, name: Name) -> bool {
+    pub fn contains(&self, name: Name) -> bool
+        ensures { IsTrue result ↔ IsLeftBlack (Some self.now.names) name }
+    {
         self.names.contains(&name)
     }
 

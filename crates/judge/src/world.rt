@@ -15,7 +15,8 @@ ghost use Rattle.judge.specs.declared.former.Change.TheVariants as change;
 ghost use Rattle.judge.specs.Stages.{Blackens, BlackensOne, IsDue, IsFirst, IsOver, IsSettled, IsStarted, LiesIn};
 ghost use Rattle.judge.specs.Stages.{Wakes, WakesAny, counted_by, idle, limit_in, preparing, put_in, shown, stage_of};
 ghost use Rattle.judge.specs.Stages.{unfinished_in, woken_tally};
-ghost use Rattle.judge.specs.Walks.{GoesOnFrom, walks_of};
+ghost use Rattle.judge.specs.Starts.{LeavesOut};
+ghost use Rattle.judge.specs.Walks.{GoesOnFrom, IsBlackBy, left_out_of, walks_of};
 ghost use Rattle.judge.specs.Replies.{AreMade, IsRefusal};
 
 use crate::arenas::Arenas;
@@ -140,7 +141,9 @@ impl World {
     }
 
     /// Whether a name is black by what a collection that runs has found so far.
-    pub fn is_black_so_far(&self, name: Name) -> bool {
+    pub fn is_black_so_far(&self, name: Name) -> bool
+        ensures { IsTrue result ↔ IsBlackBy self.now.phase self.now.black name }
+    {
         match &self.phase {
             Phase::Idle => self.black.contains(name),
             Phase::Preparing(preparation) => preparation.black.contains(name),
@@ -232,8 +235,11 @@ impl World {
 
     // What a command is beside what it wakes: the former graph takes it, what it reads turns black, and it counts.
     fn take(&mut self, graph: &Graph, command: &GraphCmd, reply: &Reply) -> Result<(), NoMemory>
-        ensures same { OnOk result (shown self.new
-            ≡ record (shown self.old) { former = self.new.former; tally = tally_of self.new.tally }) }
+        ensures same { OnOk result (shown self.new ≡ record (shown self.old) {
+          left_out = left_out_of self.new.phase;
+          former = self.new.former;
+          tally = tally_of self.new.tally;
+        }) }
         ensures takes { OnOk result (Takes (change.Command command.now) self.old.former self.new.former) }
         ensures tally { OnOk result (tally_of self.new.tally ≡ counted_by graph.now (stage_of self.old.phase)
             command.now reply.now (tally_of self.old.tally)) }
@@ -245,7 +251,8 @@ impl World {
 
     // While zones are being prepared, the target of a name that was read is woken.
     fn wake_target(&mut self, graph: &Graph, read: Option<Name>) -> Result<(), NoMemory>
-        ensures { OnOk result (shown self.new ≡ shown self.old) }
+        ensures { OnOk result (shown self.new
+            ≡ record (shown self.old) { left_out = left_out_of self.new.phase }) }
     {
         match (&mut self.phase, read) {
             (Phase::Preparing(preparation), Some(name)) => {
@@ -277,7 +284,11 @@ impl World {
     // What a name that was woken reaches turns black, by and by if zones are marking.
     fn turn_black(&mut self, graph: &Graph, name: Name) -> Result<(), NoMemory>
         ensures same { OnOk result
-            (shown self.new ≡ record (shown self.old) { black = self.new.black; walks = walks_of self.new.phase }) }
+            (shown self.new ≡ record (shown self.old) {
+              black = self.new.black;
+              left_out = left_out_of self.new.phase;
+              walks = walks_of self.new.phase;
+            }) }
         ensures black { OnOk result (BlackensOne graph.now (stage_of self.old.phase) name self.old.black
             self.new.black) }
         ensures walks { OnOk result (Wakes (stage_of self.old.phase) name (walks_of self.old.phase)
@@ -465,11 +476,14 @@ impl World {
 
     /// A collection of these zones begins: they are being prepared.
     pub fn begin(&mut self, graph: &Graph, zones: ZoneSet) -> Result<(), NoMemory>
-        ensures { OnOk result (shown self.new ≡ record (shown self.old) {
+        ensures shows { OnOk result (shown self.new ≡ record (shown self.old) {
           stage = preparing zones;
+          left_out = left_out_of self.new.phase;
           walks = None;
           tally = with_arenas (arena_count (zones_in zones) (owners_in self.old.arenas));
         }) }
+        ensures left_out { OnOk result (LeavesOut graph.now (zones_in zones) self.old.places self.old.black.names
+            (left_out_of self.new.phase)) }
     {
         self.tally = Tally {
             arenas: self.arenas.count(zones),

@@ -9,4 +9,5 @@ returns-in-Some c =
 pub returns : goal.returns
 returns c =
     let none = c.in_default.ensures in
-    IfOk-weaker c.begun.result _ _ (λ a e. inr (none.idle, none.made, e, c.in_ok-begin.ensures)) c.begun.ensures
+    let begun = c.in_ok-begin.ensures in
+    IfOk-weaker c.begun.result _ _ (λ a e. inr (none.idle, none.made, e, begun.left_out, begun.shows)) c.begun.ensures

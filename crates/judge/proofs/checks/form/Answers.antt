@@ -1,4 +1,4 @@
-use Rattle.std.proofs.Common.{List, Some, ap, subst, sym}
+use Rattle.std.proofs.Common.{List, None, Some, ap, subst, sym}
 use Rattle.gz_names.specs.declared.zone_sets.ZoneSet.{ZoneSet}
 use Rattle.judge.specs.Edges.{AreInOrder}
 use Rattle.judge.specs.Parts.{AreParts}
@@ -51,5 +51,6 @@ returns-clause-forms c =
     (none_is c.in_ok-fault.field-0 c.in_default-2.is c.in_ok-fault.ensures.none))
     (subst (λ (gs : List ZoneSet). AreInOrder c.args.graph.now world.former.graph world.places old new gs)
     c.as_slice-2.ensures.value (none_is c.in_ok-fault-2.fault c.in_default-fault.is c.in_ok-fault-2.ensures.allowed))
-    (ap (λ (s : Stage). record (shown world) { stage = s; walks = Some (walks_in c.form.new.self) })
+    (ap
+    (λ (s : Stage). record (shown world) { stage = s; left_out = None; walks = Some (walks_in c.form.new.self) })
     c.form.ensures.stage)

@@ -30,14 +30,14 @@ returns-in_default c = λ groups listed e.
 
 pub returns-in_default-others : goal.returns-in_default-others
 returns-in_default-others c = λ groups listed e.
-    ap Some (read_last c.args.text.now c.loop-read.rest.now c.loop-read.groups c.push.new.self groups c.in-Some.group
-    c.loop-read.invariant.so
+    ap Some (c.push.ensures
+    ∙ read_last c.args.text.now c.loop-read.rest.now c.loop-read.groups groups c.in-Some.group
+    (next_read c.args.text.now c.loop-read.rest.now c.loop-read.groups groups c.loop-read.invariant.so listed e)
     (λ g gs is. (
     let words = c.first_group.ensures g gs is in (
       λ spells. (let read = c.in_ok-group.ensures g (spells.0, spells.1, words.0) in cc (read, c.in-Some.is)),
       match_none c.first_group.result.1 _ _ c.in_default-others.is words.1,
-    )))
-    c.push.ensures listed e)
+    ))))
 
 pub loop-read-preserved : goal.loop-read-preserved
 loop-read-preserved c = record {

@@ -1,11 +1,13 @@
-use Rattle.std.proofs.Common.{◌≡◌, ◌∙◌, None, ap, subst, sym}
+use Rattle.std.proofs.Common.{◌≡◌, ◌∙◌, None, Option, Some, ap, subst, sym}
+use Rattle.std.specs.BTreeSet.{BTreeSet}
 use Rattle.gz_names.specs.Zones.{zones_in}
+use Rattle.gz_names.specs.declared.names.Name.{Name}
 use Rattle.gz_names.specs.declared.zone_sets.ZoneSet.{ZoneSet}
 use Rattle.judge.specs.Bounds.{IsFirstTally, marking_tally, tally_of}
 use Rattle.judge.specs.Former.{Keeps}
 use Rattle.judge.specs.Starts.{IsBegun}
 use Rattle.judge.specs.Stages.{collecting, preparing, shown, stage_in, stage_of}
-use Rattle.judge.specs.Walks.{walks_in}
+use Rattle.judge.specs.Walks.{left_out_of, walks_in}
 use Rattle.judge.specs.declared.former.Former.{Former}
 use Rattle.judge.specs.declared.world.World.{World}
 use Rattle.judge.proofs.Stages.{not_preparing, started_is}
@@ -33,8 +35,10 @@ returns c = λ zones e.
     let counts = subst (λ (z : ZoneSet). IsFirstTally c.args.graph.now z before.places (tally_of before.tally)
     (tally_of c.in_ok-self.field-0)) zones_are c.in_ok-self.ensures.first in record {
       walks = walks_in collection;
-      begun = subst (λ (z : ZoneSet). IsBegun c.args.graph.now (zones_in z) before.places (walks_in collection))
-          zones_are c.in_ok-collection.ensures.begun;
+      begun = subst (λ (o : Option (BTreeSet Name)). IsBegun c.args.graph.now (zones_in zones) before.places o
+          (walks_in collection)) (sym (ap left_out_of c.in-Preparing.is)) (subst (λ (z : ZoneSet). IsBegun
+          c.args.graph.now (zones_in z) before.places (Some c.in-Preparing.preparation.black.names)
+          (walks_in collection)) zones_are c.in_ok-collection.ensures.begun);
       keeps = subst (λ (f : Former). Keeps before.former f) (sym (ap (λ (w : World). w.former) c.enter.ensures))
           c.keep.ensures;
       counted = λ w p stands. tally ∙ counts w p stands;
