@@ -126,11 +126,32 @@ def check_clauses(path):
     return Outcome(wrong)
 
 
+def is_public(head):
+    """Whether the head of a function begins one that other crates may call."""
+    return bool(re.match(r'\s*pub (?:extern "C" )?fn ', head))
+
+
+def check_paragraphs(path):
+    """What is wrong with the clauses that the paragraphs of docs/PROOFS.md name, as `CRATE::FUNCTION`: `CLAUSE`, .."""
+    text = path.read_text()
+    named = re.findall(r"`([a-z]\w*)::(\w+)`(?::\s+(its\s+one\s+clause|`\w+`(?:,\s+`\w+`)*))?", text)
+    named = [(crate, name, rest) for crate, name, rest in named if (TOP / "crates" / crate).exists()]
+    wrong = [] if named else ["no paragraph names a clause"]
+    for crate, name, rest in named:
+        sources = (TOP / "crates" / crate / "src").rglob("*.rt")
+        found = [head for source in sources for head in heads(source).get(name, []) if is_public(head)]
+        clauses = re.findall(r"`(\w+)`", rest)
+        if not rest or not any(has_clauses(head, clauses) for head in found):
+            wrong.append(f"{crate}::{name}: {rest or 'no clause'}")
+    return Outcome(wrong)
+
+
 def check_rows(path):
-    """Whether the rows of docs/PROOFS.md are few and short enough to be read."""
-    tables = re.findall(r"(?m)^\|[- |]+\|\n((?:\|.*\n)+)", path.read_text())
-    rows = [row for table in tables for row in table.splitlines()]
-    wrong = [f"{len(rows)} rows, and {MOST_ROWS} at most"] if len(rows) > MOST_ROWS else []
+    """Whether the rows of docs/PROOFS.md are short enough to be read, and those of promises few enough."""
+    tables = re.findall(r"(?m)^\| (\w+).*\|\n\|[- |]+\|\n((?:\|.*\n)+)", path.read_text())
+    rows = [row for _, table in tables for row in table.splitlines()]
+    promises = sum(len(table.splitlines()) for head, table in tables if head == "statement")
+    wrong = [f"{promises} rows, and {MOST_ROWS} at most"] if promises > MOST_ROWS else []
     words = ((len(row.replace("|", " ").split()), row) for row in rows)
     wrong += [f"{count} words, and {MOST_WORDS} at most: {row[:60]}" for count, row in words if count > MOST_WORDS]
     return Outcome(wrong)
@@ -145,5 +166,6 @@ def checks(is_own):
             call = partial(check_command, command, wanted, is_own)
             yield Check(f"documents, {name} line {number}", 1, call)
     yield Check("documents, clauses of docs/PROOFS.md", 2, partial(check_clauses, TOP / "docs/PROOFS.md"))
+    yield Check("documents, paragraphs of docs/PROOFS.md", 1, partial(check_paragraphs, TOP / "docs/PROOFS.md"))
     yield Check("documents, rows of docs/PROOFS.md", 0.1, partial(check_rows, TOP / "docs/PROOFS.md"))
     yield Check("documents, pictures", 2, partial(check_command, PICTURES, [], is_own))
