@@ -1,4 +1,4 @@
-"""Checks what the documents show: commands, links, pictures, and the clauses that docs/PROOFS.md names.
+"""Checks what the documents show: commands, links, pictures, and the clauses and edits that docs/PROOFS.md names.
 
 tools/test runs this. The commands run the program that ./gczone finds.
 """
@@ -107,6 +107,7 @@ def check_clauses(path):
     sources = [source for folder in ("src", "specs") for source in TOP.glob(f"crates/*/{folder}/**/*.*t*")]
     words = {word for source in sources for word in re.findall(r"\w+", source.read_text())}
     words |= {crate.name for crate in TOP.glob("crates/*")}
+    words |= {edit.stem for edit in TOP.glob("crates/*/must-fail/*.edit")}
     named = re.findall(r"`([A-Z]\w+|[a-z]+_\w+)`", path.read_text())
     wrong = [f"no {name}" for name in named if name not in words]
     for line in path.read_text().splitlines():
@@ -146,6 +147,18 @@ def check_paragraphs(path):
     return Outcome(wrong)
 
 
+def check_edits(path):
+    """Whether docs/PROOFS.md names each must-fail edit that is there, once, and no other."""
+    section = path.read_text().partition("\n## Wrong bodies")[2].partition("\n## ")[0]
+    named = re.findall(r"`(\w+/\w+)`", section)
+    for crate, rest in re.findall(r"(?m)^- (\w+): (.*(?:\n  .*)*)", section):
+        named += [f"{crate}/{edit}" for edit in re.findall(r"`(\w+)`", rest)]
+    there = {f"{edit.parts[-3]}/{edit.stem}" for edit in TOP.glob("crates/*/must-fail/*.edit")}
+    wrong = [f"no edit {name}" for name in named if name not in there]
+    wrong += [f"named twice: {name}" for name in sorted(set(named)) if named.count(name) > 1]
+    return Outcome(wrong + [f"not named: {name}" for name in sorted(there.difference(named))])
+
+
 def check_rows(path):
     """Whether the rows of docs/PROOFS.md are short enough to be read, and those of promises few enough."""
     tables = re.findall(r"(?m)^\| (\w+).*\|\n\|[- |]+\|\n((?:\|.*\n)+)", path.read_text())
@@ -167,5 +180,6 @@ def checks(is_own):
             yield Check(f"documents, {name} line {number}", 1, call)
     yield Check("documents, clauses of docs/PROOFS.md", 2, partial(check_clauses, TOP / "docs/PROOFS.md"))
     yield Check("documents, paragraphs of docs/PROOFS.md", 1, partial(check_paragraphs, TOP / "docs/PROOFS.md"))
+    yield Check("documents, edits of docs/PROOFS.md", 0.1, partial(check_edits, TOP / "docs/PROOFS.md"))
     yield Check("documents, rows of docs/PROOFS.md", 0.1, partial(check_rows, TOP / "docs/PROOFS.md"))
     yield Check("documents, pictures", 2, partial(check_command, PICTURES, [], is_own))
