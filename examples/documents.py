@@ -102,14 +102,30 @@ def has_clauses(head, clauses):
     return all(re.search(rf"ensures {name}\{{", head) for name in names)
 
 
-def check_clauses(path):
-    """What docs/PROOFS.md names that is not there: crates, definitions, functions and clauses."""
+def missing_names(path):
+    """What a document names in backticks that neither sources nor specifications have."""
     sources = [source for folder in ("src", "specs") for source in TOP.glob(f"crates/*/{folder}/**/*.*t*")]
     words = {word for source in sources for word in re.findall(r"\w+", source.read_text())}
     words |= {crate.name for crate in TOP.glob("crates/*")}
     words |= {edit.stem for edit in TOP.glob("crates/*/must-fail/*.edit")}
     named = re.findall(r"`([A-Z]\w+|[a-z]+_\w+)`", path.read_text())
-    wrong = [f"no {name}" for name in named if name not in words]
+    return [f"no {name}" for name in named if name not in words]
+
+
+def check_map(path):
+    """What docs/MAP.md names that is not there: definitions, source files behind their crate, traces of examples."""
+    text = path.read_text()
+    wrong = missing_names(path)
+    for crate, files in re.findall(r"\b([a-z_]+) ((?:[a-z_/]+\.rt(?:, )?)+)", text):
+        there = [(TOP / "crates" / crate / "src" / file).exists() for file in re.findall(r"[a-z_/]+\.rt", files)]
+        wrong += [] if all(there) else [f"no {crate} {files}"]
+    traces = re.findall(r"(?m)^\|.*\| ([a-z_]+) \|$", text.partition("\n## What a change costs")[0])
+    return Outcome(wrong + [f"no trace {name}" for name in traces if not (TOP / f"examples/{name}.trace").exists()])
+
+
+def check_clauses(path):
+    """What docs/PROOFS.md names that is not there: crates, definitions, functions and clauses."""
+    wrong = missing_names(path)
     for line in path.read_text().splitlines():
         cells = [cell.strip() for cell in line.strip("|").split("|")]
         if len(cells) != 4 or not cells[2].endswith(".rt"):
@@ -180,6 +196,7 @@ def checks(is_own):
             yield Check(f"documents, {name} line {number}", 1, call)
     yield Check("documents, clauses of docs/PROOFS.md", 2, partial(check_clauses, TOP / "docs/PROOFS.md"))
     yield Check("documents, paragraphs of docs/PROOFS.md", 1, partial(check_paragraphs, TOP / "docs/PROOFS.md"))
+    yield Check("documents, names of docs/MAP.md", 2, partial(check_map, TOP / "docs/MAP.md"))
     yield Check("documents, edits of docs/PROOFS.md", 0.1, partial(check_edits, TOP / "docs/PROOFS.md"))
     yield Check("documents, rows of docs/PROOFS.md", 0.1, partial(check_rows, TOP / "docs/PROOFS.md"))
     yield Check("documents, pictures", 2, partial(check_command, PICTURES, [], is_own))
