@@ -1,4 +1,4 @@
-"""Checks what the documents show: commands, links, pictures, and the clauses and edits that docs/PROOFS.md names.
+"""Checks what the documents show: commands, links, pictures, counts of lines, and the clauses and edits that they name.
 
 tools/test runs this. The commands run the program that ./gczone finds.
 """
@@ -17,6 +17,8 @@ SECONDS = 120
 # Of a page that a reader goes through: docs/PROOFS.md has one row a promise.
 MOST_ROWS = 100
 MOST_WORDS = 60
+# The crates whose laws are about the definitions alone; docs/SPECIFICATION.md lists these.
+LAWS = ("colour_defs", "spec_laws", "collection_laws", "group_laws")
 # tools/draw needs Graphviz, but not for these.
 NO_DOT = ("--dot", "--check", "timeline")
 PICTURES = "tools/draw pictures --check"
@@ -175,6 +177,24 @@ def check_edits(path):
     return Outcome(wrong + [f"not named: {name}" for name in sorted(there.difference(named))])
 
 
+def check_counts(path):
+    """Whether each number with a mark, as `1,700<!--lines:GLOB-->`, is that of the lines there, to a twentieth of it."""
+    wrong = []
+    for count, glob in re.findall(r"([\d,]+)<!--lines:(\S+?)-->", path.read_text()):
+        found = sum(source.read_bytes().count(b"\n") for source in TOP.glob(glob))
+        if abs(found - int(count.replace(",", ""))) * 20 > found:
+            wrong.append(f"{count} lines of {glob}, and there are {found:,}")
+    return Outcome(wrong)
+
+
+def check_laws(path):
+    """Whether docs/SPECIFICATION.md names each law about the definitions."""
+    text = path.read_text()
+    sources = [source for crate in LAWS for source in (TOP / "crates" / crate / "src").rglob("*.rt")]
+    laws = [name for source in sources for name in re.findall(r"pub fn (\w+_law)\(", source.read_text())]
+    return Outcome([f"no {law}" for law in laws if f"`{law}`" not in text])
+
+
 def check_rows(path):
     """Whether the rows of docs/PROOFS.md are short enough to be read, and those of promises few enough."""
     tables = re.findall(r"(?m)^\| (\w+).*\|\n\|[- |]+\|\n((?:\|.*\n)+)", path.read_text())
@@ -191,11 +211,14 @@ def checks(is_own):
     for path in documents():
         name = str(path.relative_to(TOP))
         yield Check(f"documents, {name} links", 0.1, partial(check_links, path))
+        if "<!--lines:" in path.read_text():
+            yield Check(f"documents, {name} counts", 0.1, partial(check_counts, path))
         for number, command, wanted in commands(path.read_text()):
             call = partial(check_command, command, wanted, is_own)
             yield Check(f"documents, {name} line {number}", 1, call)
     yield Check("documents, clauses of docs/PROOFS.md", 2, partial(check_clauses, TOP / "docs/PROOFS.md"))
     yield Check("documents, paragraphs of docs/PROOFS.md", 1, partial(check_paragraphs, TOP / "docs/PROOFS.md"))
+    yield Check("documents, laws of docs/SPECIFICATION.md", 0.1, partial(check_laws, TOP / "docs/SPECIFICATION.md"))
     yield Check("documents, names of docs/MAP.md", 2, partial(check_map, TOP / "docs/MAP.md"))
     yield Check("documents, edits of docs/PROOFS.md", 0.1, partial(check_edits, TOP / "docs/PROOFS.md"))
     yield Check("documents, rows of docs/PROOFS.md", 0.1, partial(check_rows, TOP / "docs/PROOFS.md"))
