@@ -178,7 +178,7 @@ def check_edits(path):
 
 
 def check_counts(path):
-    """Whether each number with a mark, as `1,700<!--lines:GLOB-->`, is that of the lines there, to a twentieth of it."""
+    """Whether each number marked as `1,700<!--lines:GLOB-->` is that of the lines there, to a twentieth of it."""
     wrong = []
     for count, glob in re.findall(r"([\d,]+)<!--lines:(\S+?)-->", path.read_text()):
         found = sum(source.read_bytes().count(b"\n") for source in TOP.glob(glob))
