@@ -165,6 +165,24 @@ def check_paragraphs(path):
     return Outcome(wrong)
 
 
+def check_session(path):
+    """Whether the calls of a session have the clauses that docs/EMBEDDING.md names in its table of promises."""
+    folder = TOP / "crates/slice_driver/src"
+    found = {}
+    for source in (folder / "session.rt", *(folder / "session").glob("*.rt")):
+        for name, several in heads(source).items():
+            found.setdefault(name, []).extend(filter(is_public, several))
+    table = path.read_text().partition("## What is promised")[2]
+    rows = re.findall(r"(?m)^\| (`.*?) \| (.*?) \|", table)
+    wrong = [] if rows else ["no table of promises"]
+    for calls, rest in rows:
+        clauses = re.findall(r"`(\w+)`", rest.partition(":")[0])
+        for name in re.findall(r"`(?:Session::)?(\w+)`", calls):
+            if not any(has_clauses(head, clauses) for head in found.get(name, [])):
+                wrong.append(f"{name}: {rest}")
+    return Outcome(wrong)
+
+
 def check_edits(path):
     """Whether docs/PROOFS.md names each must-fail edit that is there, once, and no other."""
     section = path.read_text().partition("\n## Wrong bodies")[2].partition("\n## ")[0]
@@ -218,6 +236,7 @@ def checks(is_own):
             yield Check(f"documents, {name} line {number}", 1, call)
     yield Check("documents, clauses of docs/PROOFS.md", 2, partial(check_clauses, TOP / "docs/PROOFS.md"))
     yield Check("documents, paragraphs of docs/PROOFS.md", 1, partial(check_paragraphs, TOP / "docs/PROOFS.md"))
+    yield Check("documents, clauses of docs/EMBEDDING.md", 0.1, partial(check_session, TOP / "docs/EMBEDDING.md"))
     yield Check("documents, laws of docs/SPECIFICATION.md", 0.1, partial(check_laws, TOP / "docs/SPECIFICATION.md"))
     yield Check("documents, names of docs/MAP.md", 2, partial(check_map, TOP / "docs/MAP.md"))
     yield Check("documents, edits of docs/PROOFS.md", 0.1, partial(check_edits, TOP / "docs/PROOFS.md"))
