@@ -68,7 +68,8 @@ class DocumentsTest(unittest.TestCase):
         found = self.faults(documents.check_laws, "SPECIFICATION.md", "`weak_law`", "`weak_laws`")
         self.assertEqual(found, ["no weak_law"])
         self.assertEqual(self.faults(documents.check_session, "EMBEDDING.md"), [])
-        found = self.faults(documents.check_session, "EMBEDDING.md", "| `bound`, `value`, `none` |", "| `bound`, `nil` |")
+        check, row = documents.check_session, "| `bound`, `value`, `none` |"
+        found = self.faults(check, "EMBEDDING.md", row, "| `bound`, `nil` |")
         self.assertEqual(found, ["units_left: `bound`, `nil`"])
 
     def test_counts_of_lines(self):
