@@ -11,7 +11,7 @@ length-held : (o : Option (ℕ × ℕ)) → length (held o) ≤ 1
 length-held None = omega arith
 length-held (Some q) = omega arith
 
-few_targets : (field : ℕ → Option (ℕ × ℕ)) (n : ℕ) → length (first_targets field n) ≤ n
+pub few_targets : (field : ℕ → Option (ℕ × ℕ)) (n : ℕ) → length (first_targets field n) ≤ n
 few_targets field zero = omega arith
 few_targets field (suc n) = let r = few_targets field n in
     let a = length-append (first_targets field n) (held (field n)) in let h = length-held (field n) in omega arith

@@ -1,5 +1,6 @@
 -- Targets that became tries, or that looks found black.
-use Rattle.std.proofs.Common.{◌≡◌, ℕ, zero, suc, ◌+◌, ◌<◌, ◌≤◌, Bool, true, List, [], ◌∷◌, ◌++◌, length, get_or, All}
+use Rattle.std.proofs.Common.{◌≡◌, ℕ, zero, suc, ◌+◌, ◌<◌, ◌≤◌, Bool, true, false, not, List, [], ◌∷◌, ◌++◌, length}
+use Rattle.std.proofs.Common.{get_or, All}
 use Rattle.std.proofs.Common.{Option, sym, refl, ap, subst, ◌∙◌, arith, append-nil, append_assoc, length-append}
 use Rattle.std.proofs.lemmas.List.Elements.{All-cons, All-nil, All-append}
 use Rattle.mark_words.specs.declared.view.MarkView.{MarkView}
@@ -51,7 +52,7 @@ module _ (marking : ℕ × ℕ → Bool) where
   }
 
   -- one target that became a try, and one that was found black
-  pub scanned_push : (q : ℕ × ℕ) (tries : List (ℕ × ℕ)) (v : MarkView)
+  scanned_push : (q : ℕ × ℕ) (tries : List (ℕ × ℕ)) (v : MarkView)
       → HasScanned marking (q ∷ []) (tries, v) (tries ++ q ∷ [], v)
   scanned_push q tries v = record {
     rest = q ∷ [];
@@ -62,7 +63,7 @@ module _ (marking : ℕ × ℕ → Bool) where
     inside = All-nil _;
   }
 
-  pub scanned_look : (q : ℕ × ℕ) (tries : List (ℕ × ℕ)) (v w : MarkView) → marking q ≡ true
+  scanned_look : (q : ℕ × ℕ) (tries : List (ℕ × ℕ)) (v w : MarkView) → marking q ≡ true
       → HasTried v (q ∷ []) [] w → HasScanned marking (q ∷ []) (tries, v) (tries, w)
   scanned_look q tries v w inside looked = record {
     rest = [];
@@ -72,6 +73,18 @@ module _ (marking : ℕ × ℕ → Bool) where
     looked = looked;
     inside = All-cons (λ (p : ℕ × ℕ). marking p ≡ true) q [] inside (All-nil _);
   }
+
+  -- one that becomes a try unless it is black
+  pub scanned_find : (q : ℕ × ℕ) (s t : Tries) (black : Bool)
+      → (not black ≡ true → t.0 ≡ s.0 ++ q ∷ []) → (not black ≡ false → t.0 ≡ s.0)
+      → (black ≡ false → t.1 ≡ s.1) → (black ≡ true → (marking q ≡ true) × HasTried s.1 (q ∷ []) [] t.1)
+      → HasScanned marking (q ∷ []) s t
+  scanned_find q s t true added kept same looked =
+      subst (λ (l : List (ℕ × ℕ)). HasScanned marking (q ∷ []) s (l, t.1)) (sym (kept refl))
+      (scanned_look q s.0 s.1 t.1 (looked refl).0 (looked refl).1)
+  scanned_find q s t false added kept same looked =
+      subst (λ (u : Tries). HasScanned marking (q ∷ []) s u) (λ i. (sym (added refl) i, sym (same refl) i))
+      (scanned_push q s.0 s.1)
 
   -- targets and those behind them
   pub scanned_more : (ps qs : List (ℕ × ℕ)) (s t u : Tries) → HasScanned marking ps s t → HasScanned marking qs t u
@@ -88,6 +101,18 @@ module _ (marking : ℕ × ℕ → Bool) where
     tries_are = y.tries_are ∙ ap (λ (l : List (ℕ × ℕ)). l ++ y.rest) x.tries_are ∙ append_assoc s.0 x.rest y.rest;
     looked = looked_more s.1 t.1 u.1 x.seen y.seen x.looked y.looked;
     inside = All-append (λ (p : ℕ × ℕ). marking p ≡ true) x.seen y.seen x.inside y.inside;
+  }
+
+  -- what was found stands behind the tries
+  pub scanned_behind : (qs tries found more : List (ℕ × ℕ)) (v w : MarkView)
+      → HasScanned marking qs (found, v) (more, w) → HasScanned marking qs (tries ++ found, v) (tries ++ more, w)
+  scanned_behind qs tries found more v w x = record {
+    rest = x.rest;
+    seen = x.seen;
+    parts_are = x.parts_are;
+    tries_are = ap (λ (l : List (ℕ × ℕ)). tries ++ l) x.tries_are ∙ sym (append_assoc tries found x.rest);
+    looked = x.looked;
+    inside = x.inside;
   }
 
   -- no more tries than targets come, and the seat keeps its parts

@@ -1,22 +1,10 @@
 -- Reading the edges of a cell.
 use Rattle.std.proofs.Common.{◌≡◌, ℕ, zero, suc, ◌+◌, ◌<◌, ◌≤◌, List, [], ◌∷◌, ◌++◌, length, Option, Some, None, refl}
-use Rattle.std.proofs.Common.{ap, sym, subst, ◌∙◌, arith, append_assoc, append-nil}
-use Rattle.std.proofs.lemmas.List.{length-append}
+use Rattle.std.proofs.Common.{ap, sym, ◌∙◌, arith, append_assoc, append-nil}
 use mathlib.Core.Logic.{dite}
 use native.Mathlib.Decide.{ℕ_discrete}
 use Rattle.mark_words.specs.Sums.{weigh}
 use Rattle.mark_ahead.specs.Edges.{held, first_targets}
-
--- fewer fields hold no more
-pub length-first_targets : (field : ℕ → Option (ℕ × ℕ)) (n m : ℕ) → n ≤ m
-    → length (first_targets field n) ≤ length (first_targets field m)
-length-first_targets field n zero le = let e : n ≡ 0 = omega arith in
-    subst (λ (z : ℕ). length (first_targets field z) ≤ 0) (sym e) (omega arith)
-length-first_targets field n (suc m) le = dite (ℕ_discrete n (suc m))
-    (λ e. subst (λ (z : ℕ). length (first_targets field z) ≤ length (first_targets field (suc m))) (sym e)
-    (omega arith))
-    (λ ne. let r = length-first_targets field n m (omega arith) in
-    let a = length-append (first_targets field m) (held (field m)) in omega arith)
 
 pub weigh-one : (ps : List (ℕ × ℕ)) → weigh (λ _. 1) ps ≡ length ps
 weigh-one [] = refl
@@ -48,14 +36,6 @@ all_fields field n (suc m) le past = dite (ℕ_discrete n (suc m))
     (λ ne. all_fields field n m (omega arith) (λ i low high. past i low (omega arith))
     ∙ sym (append-nil (first_targets field m))
     ∙ ap (λ (o : Option (ℕ × ℕ)). first_targets field m ++ held o) (sym (past m (omega arith) (omega arith))))
-
--- there is room for one more
-pub room_more : (field : ℕ → Option (ℕ × ℕ)) (n : ℕ) (q : ℕ × ℕ) → n < 8 → field n ≡ Some q
-    → length (first_targets field n) + 1 ≤ length (first_targets field 8)
-room_more field n q lt e =
-    let a = length-append (first_targets field n) (held (field n)) in
-    let h : length (held (field n)) ≡ 1 = ap (λ (o : Option (ℕ × ℕ)). length (held o)) e in
-    let m = length-first_targets field (suc n) 8 (omega arith) in omega arith
 
 pub nothing : (o : Option (ℕ × ℕ)) → ((q : ℕ × ℕ) → o ≡ Some q → ⊥) → o ≡ None
 nothing None none = refl

@@ -79,6 +79,7 @@ mod callers;
 mod closed;
 mod donations;
 mod first_tries;
+mod found;
 mod gather;
 mod graph;
 mod heap;

@@ -1,5 +1,5 @@
 // Scanning cells.
-ghost use Rattle.std.specs.Prelude.{◌≡◌, ◌+◌, ◌≤◌, ◌<◌, ℕ, [], ◌∷◌, true, false, length, All};
+ghost use Rattle.std.specs.Prelude.{◌≡◌, ◌+◌, ◌≤◌, ◌<◌, ℕ, [], ◌∷◌, ◌++◌, false, length, All};
 ghost use Rattle.std.specs.VecDeque.{deque_len, deque_capacity};
 ghost use Rattle.mark_words.specs.Seats.{first_of, view_of, IsSeatOf};
 ghost use Rattle.mark_ahead.specs.Edges.{targets};
@@ -7,6 +7,7 @@ ghost use Rattle.par_mark.specs.Edges.{all_targets};
 ghost use Rattle.par_mark.specs.Scans.{HasScanned};
 ghost use Rattle.par_mark.specs.Tries.{Serves};
 
+use crate::found::Found;
 use crate::graph::Graph;
 use gz_names::Place;
 use mark_words::{Marks, PlaceList, Seat};
@@ -34,9 +35,12 @@ pub(crate) fn scan_all<H: Graph, L: PlaceList>(
     if !have_fields(heap, cells) {
         return;
     }
+    let mut found = Found::new();
     for place in cells {
-        scan(heap, marks, seat, *place, tries);
+        found.make_room(tries);
+        scan(heap, marks, seat, *place, &mut found);
     }
+    found.move_to(tries);
 }
 
 // Whether one of these cells has fields. They are read one behind the other, so that the waits for them overlap, and
@@ -58,44 +62,41 @@ fn scan<H: Graph, L: PlaceList>(
     marks: &Marks<L>,
     seat: &mut Seat,
     place: Place,
-    tries: &mut VecDeque<Place>,
+    found: &mut Found,
 )
     requires seat { IsSeatOf marks.now seat.old × (0 < (view_of seat.old).parts) }
     requires serves { Serves (H.has heap.now) (H.edge heap.now) (H.marking heap.now) (first_of marks.now) L.places }
     requires listed { All L.places (targets (H.edge heap.now) place) }
     requires present { H.has heap.now place }
-    requires room { deque_len tries.old + length (targets (H.edge heap.now) place) ≤ deque_capacity tries.old }
+    requires room { length found.old + 8 ≤ 64 }
     ensures seat { IsSeatOf marks.now seat.new }
     ensures scanned { HasScanned (H.marking heap.now) (targets (H.edge heap.now) place)
-        (tries.old.items, view_of seat.old) (tries.new.items, view_of seat.new) }
-    ensures room { deque_capacity tries.new ≡ deque_capacity tries.old }
+        (found.old, view_of seat.old) (found.new, view_of seat.new) }
 {
     for i in 0..heap.edge_count(place) {
         if let Some(target) = heap.edge_at(place, i) {
-            push_unless_black(heap, marks, seat, target, tries);
+            find(heap, marks, seat, target, found);
         }
     }
 }
 
-// Makes a try of a target, unless it is in a marking zone and a look finds it black.
+// Adds a target to those that were found, unless it is in a marking zone and a look finds it black.
 #[inline(always)]
-fn push_unless_black<H: Graph, L: PlaceList>(
+fn find<H: Graph, L: PlaceList>(
     heap: &H,
     marks: &Marks<L>,
     seat: &mut Seat,
     target: Place,
-    tries: &mut VecDeque<Place>,
+    found: &mut Found,
 )
     requires seat { IsSeatOf marks.now seat.old × (0 < (view_of seat.old).parts) }
     requires serves { Serves (H.has heap.now) (H.edge heap.now) (H.marking heap.now) (first_of marks.now) L.places }
     requires listed { L.places target }
-    requires room { deque_len tries.old < deque_capacity tries.old }
+    requires room { length found.old < 64 }
     ensures seat { IsSeatOf marks.now seat.new }
     ensures scanned { HasScanned (H.marking heap.now) (target ∷ [])
-        (tries.old.items, view_of seat.old) (tries.new.items, view_of seat.new) }
-    ensures room { deque_capacity tries.new ≡ deque_capacity tries.old }
+        (found.old, view_of seat.old) (found.new, view_of seat.new) }
 {
-    if !heap.is_marking(target) || !marks.is_black(seat, target) {
-        tries.push_back_reserved(target);
-    }
+    let is_black = heap.is_marking(target) && marks.is_black(seat, target);
+    found.push_if(target, !is_black);
 }

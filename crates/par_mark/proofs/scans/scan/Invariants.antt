@@ -1,5 +1,4 @@
-use Rattle.std.proofs.Common.{◌≡◌, ◌<◌}
-use Rattle.std.specs.VecDeque.{deque_capacity}
+use Rattle.std.proofs.Common.{◌<◌}
 use Rattle.mark_words.specs.Seats.{view_of, IsSeatOf}
 use Rattle.mark_ahead.specs.Edges.{first_targets}
 use Rattle.par_mark.specs.Scans.{HasScanned}
@@ -8,5 +7,4 @@ use Rattle.par_mark.proofs.scans.scan.Given as goal
 abbrev pub invariant-loop-i : goal.invariant-loop-i
 invariant-loop-i g l = IsSeatOf l.marks l.seat × (0 < (view_of l.seat).parts)
     × HasScanned (g.H.Graph.marking l.heap) (first_targets (g.H.Graph.edge l.heap l.place) l.i)
-    (l.fn.tries.items, view_of l.fn.seat) (l.tries.items, view_of l.seat)
-    × (deque_capacity l.tries ≡ deque_capacity l.fn.tries)
+    (l.fn.found, view_of l.fn.seat) (l.found, view_of l.seat)
