@@ -30,6 +30,8 @@ pub mod Starts
 pub mod Taking
 pub mod GivenUp
 pub mod Resets
+pub mod LeftOut
+pub mod LeftStages
 pub mod Lying
 pub mod Freed
 pub mod Determined

@@ -7,6 +7,7 @@ pub mod Cells
 pub mod Whites
 pub mod Arenas
 pub mod Starts
+pub mod LeftOut
 pub mod Parts
 pub mod Bounds
 pub mod Edges

@@ -7,14 +7,17 @@ ghost use Rattle.gz_names.specs.Zones.{HasZone, zones_in};
 ghost use Rattle.gz_names.specs.declared.zone_sets.ZoneSet.{ZoneSet as AZoneSet};
 ghost use Rattle.colour_defs.specs.Ends.{Lists};
 ghost use Rattle.judge.specs.Arenas.{owners_in};
-ghost use Rattle.judge.specs.Cells.{GivesPlace, GivesPlaces, HasCell, made_in, named_in, woken_in, wrapper_in};
+ghost use Rattle.colour_defs.specs.World.{target_cell};
+ghost use Rattle.judge.specs.Cells.{GivesPlace, GivesPlaces, HasCell, also_woken_in, made_in, named_in, woken_in};
+ghost use Rattle.judge.specs.Cells.{wrapper_in};
+ghost use Rattle.judge.specs.LeftOut.{IsEither};
 ghost use Rattle.judge.specs.Compaction.{GoTo, Packs, place_order};
 ghost use Rattle.judge.specs.Bounds.{arena_count, tally_of, with_arenas};
 ghost use Rattle.judge.specs.Former.{Takes};
 ghost use Rattle.judge.specs.declared.former.Change.TheVariants as change;
-ghost use Rattle.judge.specs.Stages.{Blackens, BlackensOne, IsDue, IsFirst, IsOver, IsSettled, IsStarted, LiesIn};
-ghost use Rattle.judge.specs.Stages.{Wakes, WakesAny, counted_by, idle, limit_in, preparing, put_in, shown, stage_of};
-ghost use Rattle.judge.specs.Stages.{unfinished_in, woken_tally};
+ghost use Rattle.judge.specs.Stages.{Blackens, BlackensLeft, BlackensOne, IsDue, IsFirst, IsOver, IsSettled, IsStarted};
+ghost use Rattle.judge.specs.Stages.{LiesIn, Wakes, WakesAny, counted_by, idle, limit_in, preparing, put_in, shown};
+ghost use Rattle.judge.specs.Stages.{stage_of, unfinished_in, woken_tally};
 ghost use Rattle.judge.specs.Starts.{LeavesOut};
 ghost use Rattle.judge.specs.Walks.{GoesOnFrom, IsBlackBy, left_out_of, walks_of};
 ghost use Rattle.judge.specs.Replies.{AreMade, IsRefusal};
@@ -146,7 +149,7 @@ impl World {
     {
         match &self.phase {
             Phase::Idle => self.black.contains(name),
-            Phase::Preparing(preparation) => preparation.black.contains(name),
+            Phase::Preparing(preparation) => preparation.is_black(name),
             Phase::Collecting(collection) => collection.black.contains(name),
         }
     }
@@ -175,6 +178,9 @@ impl World {
         ensures told { OnOk result (self.new.told ≡ self.old.told) }
         ensures black { OnOk result (Blackens graph.now (stage_of self.old.phase) (woken_in command.now reply.now)
             self.old.black self.new.black) }
+        ensures left_out { OnOk result (BlackensLeft graph.now (stage_of self.old.phase)
+            (IsEither (woken_in command.now reply.now) (also_woken_in command.now reply.now))
+            (left_out_of self.old.phase) (left_out_of self.new.phase)) }
         ensures walks { OnOk result (WakesAny (stage_of self.old.phase) (woken_in command.now reply.now)
             (walks_of self.old.phase) (walks_of self.new.phase)) }
         ensures tally { OnOk result (tally_of self.new.tally ≡ counted_by graph.now (stage_of self.old.phase)
@@ -201,6 +207,8 @@ impl World {
         ensures told { OnOk result (self.new.told ≡ self.old.told) }
         ensures black { OnOk result (Blackens graph.now (stage_of self.old.phase) named self.old.black
             self.new.black) }
+        ensures left_out { OnOk result (BlackensLeft graph.now (stage_of self.old.phase) (IsEither named None)
+            (left_out_of self.old.phase) (left_out_of self.new.phase)) }
         ensures walks { OnOk result (WakesAny (stage_of self.old.phase) named (walks_of self.old.phase)
             (walks_of self.new.phase)) }
         ensures tally { OnOk result (tally_of self.new.tally
@@ -223,6 +231,8 @@ impl World {
         ensures told { OnOk result (self.new.told ≡ self.old.told) }
         ensures black { OnOk result (Blackens graph.now (stage_of self.old.phase) name self.old.black
             self.new.black) }
+        ensures left_out { OnOk result (BlackensLeft graph.now (stage_of self.old.phase) (λ s. name ≡ Some s)
+            (left_out_of self.old.phase) (left_out_of self.new.phase)) }
         ensures walks { OnOk result (WakesAny (stage_of self.old.phase) name (walks_of self.old.phase)
             (walks_of self.new.phase)) }
         ensures tally { OnOk result (tally_of self.new.tally ≡ tally_of self.old.tally) }
@@ -241,25 +251,31 @@ impl World {
           tally = tally_of self.new.tally;
         }) }
         ensures takes { OnOk result (Takes (change.Command command.now) self.old.former self.new.former) }
+        ensures left_out { OnOk result (BlackensLeft graph.now (stage_of self.old.phase)
+            (λ s. also_woken_in command.now reply.now ≡ Some s) (left_out_of self.old.phase)
+            (left_out_of self.new.phase)) }
         ensures tally { OnOk result (tally_of self.new.tally ≡ counted_by graph.now (stage_of self.old.phase)
             command.now reply.now (tally_of self.old.tally)) }
     {
         self.former.change(&Change::Command(*command))?;
         self.count(graph, command, reply)?;
-        self.wake_target(graph, read_in(command, reply))
+        self.wake_also(graph, also_woken_in(command, reply))
     }
 
-    // While zones are being prepared, the target of a name that was read is woken.
-    fn wake_target(&mut self, graph: &Graph, read: Option<Name>) -> Result<(), NoMemory>
-        ensures { OnOk result (shown self.new
+    // A name that there may be is woken, if zones are being prepared.
+    fn wake_also(&mut self, graph: &Graph, name: Option<Name>) -> Result<(), NoMemory>
+        ensures same { OnOk result (shown self.new
             ≡ record (shown self.old) { left_out = left_out_of self.new.phase }) }
+        ensures left_out { OnOk result (BlackensLeft graph.now (stage_of self.old.phase) (λ s. name ≡ Some s)
+            (left_out_of self.old.phase) (left_out_of self.new.phase)) }
     {
-        match (&mut self.phase, read) {
-            (Phase::Preparing(preparation), Some(name)) => {
-                preparation.black.blacken(graph, target_of(name))
-            }
-            _ => Ok(()),
-        }
+        let Some(name) = name else {
+            return Ok(());
+        };
+        let Phase::Preparing(preparation) = &mut self.phase else {
+            return Ok(());
+        };
+        preparation.blacken(graph, name)
     }
 
     fn wake(&mut self, graph: &Graph, name: Name) -> Result<(), NoMemory>
@@ -273,6 +289,8 @@ impl World {
         ensures told { OnOk result (self.new.told ≡ self.old.told) }
         ensures black { OnOk result (BlackensOne graph.now (stage_of self.old.phase) name self.old.black
             self.new.black) }
+        ensures left_out { OnOk result (BlackensLeft graph.now (stage_of self.old.phase) (λ s. name ≡ s)
+            (left_out_of self.old.phase) (left_out_of self.new.phase)) }
         ensures walks { OnOk result (Wakes (stage_of self.old.phase) name (walks_of self.old.phase)
             (walks_of self.new.phase)) }
         ensures tally { OnOk result (tally_of self.new.tally ≡ tally_of self.old.tally) }
@@ -291,12 +309,14 @@ impl World {
             }) }
         ensures black { OnOk result (BlackensOne graph.now (stage_of self.old.phase) name self.old.black
             self.new.black) }
+        ensures left_out { OnOk result (BlackensLeft graph.now (stage_of self.old.phase) (λ s. name ≡ s)
+            (left_out_of self.old.phase) (left_out_of self.new.phase)) }
         ensures walks { OnOk result (Wakes (stage_of self.old.phase) name (walks_of self.old.phase)
             (walks_of self.new.phase)) }
     {
         match &mut self.phase {
             Phase::Idle => blacken(&mut self.black, graph, name),
-            Phase::Preparing(preparation) => preparation.black.blacken(graph, name),
+            Phase::Preparing(preparation) => preparation.blacken(graph, name),
             Phase::Collecting(collection) => {
                 if collection.marking.is_empty() {
                     blacken(&mut self.black, graph, name)
@@ -578,11 +598,23 @@ fn woken_in(command: &GraphCmd, reply: &Reply) -> Option<Name>
     }
 }
 
-// The name that `wrap` and `unwrap` give, which stands for the target that they read.
-fn read_in(command: &GraphCmd, reply: &Reply) -> Option<Name> {
+// The target of a name that there may be.
+fn target_in(name: Option<Name>) -> Option<Name>
+    ensures { result ≡ target_cell name }
+{
+    match name {
+        None => None,
+        Some(name) => Some(target_of(name)),
+    }
+}
+
+// A second name that a command wakes while zones are being prepared, by its reply: what it read through a wrapper.
+fn also_woken_in(command: &GraphCmd, reply: &Reply) -> Option<Name>
+    ensures { result ≡ also_woken_in command.now reply.now }
+{
     match command {
-        GraphCmd::Wrap(_, _, _) => named_in(reply),
-        GraphCmd::Unwrap(_, _) => named_in(reply),
+        GraphCmd::Wrap(_, _, _) => target_in(named_in(reply)),
+        GraphCmd::Unwrap(_, _) => target_in(named_in(reply)),
         _ => None,
     }
 }
