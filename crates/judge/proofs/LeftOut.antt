@@ -1,7 +1,7 @@
 -- What turns black of the zones that are left out.
-use Rattle.std.proofs.Common.{◌≡◌, ◌⊎◌, ◌↔◌, ◌∙◌, inl, inr, ℕ, ◌+◌, ◌<◌, ◌≤◌, true, false, List, [], ◌∷◌, ◌++◌, Contains}
-use Rattle.std.proofs.Common.{length, get_or, take, drop, Option, Some, None, refl, slice_get, subst, sym, ap, arith}
-use Rattle.std.proofs.Common.{append_assoc}
+use Rattle.std.proofs.Common.{◌≡◌, ◌⊎◌, ◌↔◌, ◌∙◌, inl, inr, ℕ, ◌+◌, ◌<◌, ◌≤◌, true, false, List, [], ◌∷◌, ◌++◌}
+use Rattle.std.proofs.Common.{Contains, length, get_or, take, drop, Option, Some, None, refl, slice_get, subst, sym, ap}
+use Rattle.std.proofs.Common.{append_assoc, arith}
 use Rattle.std.specs.BTreeSet as sorted
 use Rattle.std.proofs.lemmas.List.{append-nil, take-append-drop, take-append-le, take_all}
 use Rattle.std.proofs.lemmas.List.Elements.{Contains-append_cases, Contains-append_left, Contains-append_right}
@@ -22,8 +22,8 @@ use Rattle.colour_defs.proofs.Carried.{within_in}
 use Rattle.plain_graph.specs.Reach.{IsAt, Waits}
 use Rattle.plain_graph.proofs.Walks.{take_cases, take_new, take_old}
 use Rattle.judge.specs.Former.{held_in}
-use Rattle.judge.specs.LeftOut.{Adds, AreOut, AreReached, GrowsLeft, Extends, HasDelegateLeft, HasLeft, IsClosedLeft, IsOut}
-use Rattle.judge.specs.LeftOut.{Keeps, Visits}
+use Rattle.judge.specs.LeftOut.{Adds, AreOut, AreReached, Extends, GrowsLeft, HasDelegateLeft, HasLeft, IsClosedLeft}
+use Rattle.judge.specs.LeftOut.{IsOut, Keeps, Visits}
 use Rattle.judge.specs.declared.preparation.Preparation.{Preparation}
 use Rattle.judge.proofs.Cells.{apart}
 use Rattle.judge.proofs.Watching.{same_or_not}
@@ -118,8 +118,8 @@ adds_new g old new name out puts = record {
     here x same = subst (λ (y : Name). HasLeft new y) same puts.updates.1
 
 -- one after another
-pub adds_both : (g : GraphState) (old mid new : Preparation) (P Q R : Name → Type 0) → Adds g old mid P → Adds g mid new Q
-    → ((x : Name) → R x ↔ (P x ⊎ Q x)) → Adds g old new R
+pub adds_both : (g : GraphState) (old mid new : Preparation) (P Q R : Name → Type 0) → Adds g old mid P
+    → Adds g mid new Q → ((x : Name) → R x ↔ (P x ⊎ Q x)) → Adds g old new R
 adds_both g old mid new P Q R a b are = record {
   extends = extends_both old mid new a.extends b.extends;
   only = λ x h. elim (b.only x h) [
@@ -148,20 +148,24 @@ adds_nothing g l P none = record {
 }
 
 -- what fields hold
+pub record IsHeldAt (fields : List (Option Name)) (i : ℕ) (y : Name) : Type 0 where
+  pub below : i < length fields
+  pub at : get_or fields i None ≡ Some y
+
 pub held_more : (g : GraphState) (old mid new : Preparation) (fields : List (Option Name)) (i : ℕ) (y : Name)
-    → i < length fields → get_or fields i None ≡ Some y → Adds g old mid (λ x. Contains (take i fields) (Some x))
-    → Adds g mid new (λ x. y ≡ x) → Adds g old new (λ x. Contains (take (i + 1) fields) (Some x))
-held_more g old mid new fields i y below at a b =
+    → IsHeldAt fields i y → Adds g old mid (λ x. Contains (take i fields) (Some x)) → Adds g mid new (λ x. y ≡ x)
+    → Adds g old new (λ x. Contains (take (i + 1) fields) (Some x))
+held_more g old mid new fields i y held a b =
     adds_both g old mid new (λ x. Contains (take i fields) (Some x)) (λ x. y ≡ x)
     (λ x. Contains (take (i + 1) fields) (Some x)) a b
     (λ x. (
-      λ c. elim (take_cases fields i None (Some x) below c) [
+      λ c. elim (take_cases fields i None (Some x) held.below c) [
         | inl o ↦ inl o
-        | inr same ↦ inr (let both : Some y ≡ Some x = sym at ∙ same in cc both)
+        | inr same ↦ inr (let both : Some y ≡ Some x = sym held.at ∙ same in cc both)
       ],
       λ h. elim h [
-        | inl o ↦ take_old fields i None (Some x) below o
-        | inr same ↦ take_new fields i None (Some x) below (at ∙ ap Some same)
+        | inl o ↦ take_old fields i None (Some x) held.below o
+        | inr same ↦ take_new fields i None (Some x) held.below (held.at ∙ ap Some same)
       ],
     ))
 
@@ -186,8 +190,9 @@ holds_is None y = (λ h. absurd h, λ c. absurd (nothing_in_none (Some y) c))
 holds_is (Some o) y = (λ h. h, λ c. c)
 
 -- what a name leads to, as an object, and as a wrapper
-pub object_leads : (g : GraphState) (n : ℕ) (x : Name) (old new : Preparation) (fields : List (Option Name)) → x ≡ Cell n
-    → fields ≡ held_in (object_of g n) → Adds g old new (λ y. Contains fields (Some y)) → Adds g old new (HasEdge g x)
+pub object_leads : (g : GraphState) (n : ℕ) (x : Name) (old new : Preparation) (fields : List (Option Name))
+    → x ≡ Cell n → fields ≡ held_in (object_of g n) → Adds g old new (λ y. Contains fields (Some y))
+    → Adds g old new (HasEdge g x)
 object_leads g n x old new fields is held a =
     subst (λ (z : Name). Adds g old new (HasEdge g z)) (sym is)
     (adds_as g old new (λ y. Contains fields (Some y)) (HasEdge g (Cell n)) a (λ y. (
@@ -208,8 +213,8 @@ wrapper_none g c t x l is none =
     (adds_nothing g l (HasEdge g (Wrap c t)) (λ y e. let made = e.1 in cc (made, none)))
 
 -- what is reached from names that are reached
-pub within_from : (g : GraphState) (I S T : Name → Type 0) → ((x : Name) → S x → I x → ClosureWithin g I T x) → {x : Name}
-    → ClosureWithin g I S x → ClosureWithin g I T x
+pub within_from : (g : GraphState) (I S T : Name → Type 0) → ((x : Name) → S x → I x → ClosureWithin g I T x)
+    → {x : Name} → ClosureWithin g I S x → ClosureWithin g I T x
 within_from g I S T f (within_start s i) = f _ s i
 within_from g I S T f (within_edge r e i) = within_edge (within_from g I S T f r) e i
 within_from g I S T f (within_value is m k i) = within_value is (within_from g I S T f m) (within_from g I S T f k) i
@@ -273,12 +278,16 @@ keeps_value g old new map key value is hm hk a = record {
 }
 
 -- it keeps its key
+pub record IsDelegated (l : Preparation) (map key : Name) : Type 0 where
+  pub map_black : HasLeft l map
+  pub key_not : HasLeft l key → ⊥
+  pub target_black : HasDelegateLeft l key
+
 pub keeps_key : (g : GraphState) (old new : Preparation) (map key value : Name) → value_of g map key ≡ Some value
-    → HasLeft old map → (HasLeft old key → ⊥) → HasDelegateLeft old key → Adds g old new (λ x. key ≡ x)
-    → Keeps g (IsAt map key) old new
-keeps_key g old new map key value is hm none delegate a = record {
+    → IsDelegated old map key → Adds g old new (λ x. key ≡ x) → Keeps g (IsAt map key) old new
+keeps_key g old new map key value is d a = record {
   extends = a.extends;
-  values = λ m k v at e _ hk out. absurd (none (subst (λ (y : Name). HasLeft old y) (sym at.1) hk));
+  values = λ m k v at e _ hk out. absurd (d.key_not (subst (λ (y : Name). HasLeft old y) (sym at.1) hk));
   keys = λ m v c t at e _ _ out. a.all (Wrap c t) at.1 out;
   sound = λ inside. reached_more g old new (λ x. key ≡ x) a
       (λ x same out. reached inside x same out key refl) inside;
@@ -287,15 +296,16 @@ keeps_key g old new map key value is hm none delegate a = record {
     reached : AreOut g old → (x : Name) → key ≡ x → IsOut g old x → (k : Name) → k ≡ key
         → ClosureWithin g (IsOut g old) (HasLeft old) x
     reached inside x same out (Cell n) at =
-        absurd (subst (λ (y : Name). HasDelegateLeft old y) (sym at) delegate)
+        absurd (subst (λ (y : Name). HasDelegateLeft old y) (sym at) d.target_black)
     reached inside x same out (Wrap c t) at =
-        let target = subst (λ (y : Name). HasDelegateLeft old y) (sym at) delegate in
+        let target = subst (λ (y : Name). HasDelegateLeft old y) (sym at) d.target_black in
         subst (λ (y : Name). ClosureWithin g (IsOut g old) (HasLeft old) y) (at ∙ same)
-        (within_key (ap (λ (y : Name). value_of g map y) at ∙ is) (within_start hm (inside map hm))
+        (within_key (ap (λ (y : Name). value_of g map y) at ∙ is) (within_start d.map_black (inside map d.map_black))
         (within_start target (inside (Cell t) target))
         (subst (λ (y : Name). IsOut g old y) (sym (at ∙ same)) out))
 
-pub kept_none : (g : GraphState) (l : Preparation) (P : Name → Name → Type 0) → ((m k : Name) → P m k → ⊥) → Keeps g P l l
+pub kept_none : (g : GraphState) (l : Preparation) (P : Name → Name → Type 0) → ((m k : Name) → P m k → ⊥)
+    → Keeps g P l l
 kept_none g l P none = record {
   extends = extends_same l;
   values = λ m k v at e hm hk out. absurd (none m k at);
@@ -329,9 +339,12 @@ kept_all g old new pairs i le k =
     subst (λ (ps : List (Name × Name)). Keeps g (λ m k. Contains ps (m, k)) old new) (take_all i pairs le) k
 
 -- a name is visited
+abbrev pub AllWait : GraphState → Name → List (Name × Name) → Type 0
+AllWait g x pairs = (m k v : Name) → value_of g m k ≡ Some v → Waits x m k → Contains pairs (m, k)
+
 pub visits_of : (g : GraphState) (x : Name) (old mid new : Preparation) (pairs : List (Name × Name)) → HasLeft old x
-    → Adds g old mid (HasEdge g x) → Keeps g (λ m k. Contains pairs (m, k)) mid new
-    → ((m k v : Name) → value_of g m k ≡ Some v → Waits x m k → Contains pairs (m, k)) → Visits g x old new
+    → Adds g old mid (HasEdge g x) → Keeps g (λ m k. Contains pairs (m, k)) mid new → AllWait g x pairs
+    → Visits g x old new
 visits_of g x old mid new pairs has a b waits = record {
   entries = record {
     extends = extends_both old mid new a.extends b.extends;
@@ -491,10 +504,11 @@ goes_more g x old mid now i name found so v = record {
 
     seen : (y : Name) → IsSeen old now (i + 1) y → IsSeen old mid i y ⊎ (name ≡ y)
     seen y (inl o) = inl (inl o)
-    seen y (inr c) = elim (take_cases mid.found.items i name y below (subst (λ (ns : List Name). Contains ns y) front c)) [
-      | inl o ↦ inl (inr o)
-      | inr same ↦ inr (sym at ∙ same)
-    ]
+    seen y (inr c) =
+        elim (take_cases mid.found.items i name y below (subst (λ (ns : List Name). Contains ns y) front c)) [
+          | inl o ↦ inl (inr o)
+          | inr same ↦ inr (sym at ∙ same)
+        ]
 
     mid_has : (y : Name) → IsSeen old now (i + 1) y → HasLeft mid y
     mid_has y (inl o) = so.keeps y o

@@ -72,7 +72,8 @@ grows_both g zones P Q R old mid new are first then = λ closed y. (
       edges = λ x y h e out. (first closed y).1 (within_edge ((first closed x).0 h) e out);
       values = λ m k v is hm hk out.
           (first closed v).1 (within_value is ((first closed m).0 hm) ((first closed k).0 hk) out);
-      keys = λ m v c t is hm ht out. (first closed _).1 (within_key is ((first closed m).0 hm) ((first closed _).0 ht) out);
+      keys = λ m v c t is hm ht out.
+          (first closed _).1 (within_key is ((first closed m).0 hm) ((first closed _).0 ht) out);
     }
 
 pub left_as : (g : GraphState) (s : Stage) (P Q : Name → Type 0) (old new : Option (BTreeSet Name))
@@ -88,20 +89,13 @@ left_none g (preparing zones) P left none = grows_none g zones P left none
 left_none g (collecting zones marking groups) P left none = refl
 
 pub left_both : (g : GraphState) (s : Stage) (P Q R : Name → Type 0) (old mid new : Option (BTreeSet Name))
-    → ((x : Name) → R x ↔ (P x ⊎ Q x)) → BlackensLeft g s P old mid → BlackensLeft g s Q mid new
+    → ((x : Name) → R x ↔ (P x ⊎ Q x)) → BlackensLeft g s P old mid × BlackensLeft g s Q mid new
     → BlackensLeft g s R old new
-left_both g idle P Q R old mid new are a b = b ∙ a
-left_both g (preparing zones) P Q R old mid new are a b = grows_both g zones P Q R old mid new are a b
-left_both g (collecting zones marking groups) P Q R old mid new are a b = b ∙ a
+left_both g idle P Q R old mid new are (a, b) = b ∙ a
+left_both g (preparing zones) P Q R old mid new are (a, b) = grows_both g zones P Q R old mid new are a b
+left_both g (collecting zones marking groups) P Q R old mid new are (a, b) = b ∙ a
 
--- while no zones are being prepared, nothing turns black of the zones that are left out
-pub left_not : (g : GraphState) (p : Phase) (P : Name → Type 0) (left : Option (BTreeSet Name))
-    → ((zones : ZoneSet) → stage_of p ≡ preparing zones → ⊥) → BlackensLeft g (stage_of p) P left left
-left_not g phase.Idle P left none = refl
-left_not g (phase.Preparing p) P left none = absurd (none p.zones refl)
-left_not g (phase.Collecting k) P left none = refl
-
--- the same, by what is the same as the stage and as what was black
+-- what turns black, by a stage and black names that are the same
 pub left_moved : (g : GraphState) (s t : Stage) (P : Name → Type 0) (a b new : Option (BTreeSet Name)) → t ≡ s → b ≡ a
     → BlackensLeft g t P b new → BlackensLeft g s P a new
 left_moved g s t P a b new stage left l =
@@ -114,8 +108,8 @@ left_of g s x y old new same l =
     subst (λ (z : Option Name). BlackensLeft g s (λ n. z ≡ Some n) old new) same l
 
 -- one name
-pub left_some : (g : GraphState) (s : Stage) (x : Name) (o : Option Name) (old new : Option (BTreeSet Name)) → o ≡ Some x
-    → BlackensLeft g s (λ n. x ≡ n) old new → BlackensLeft g s (λ n. o ≡ Some n) old new
+pub left_some : (g : GraphState) (s : Stage) (x : Name) (o : Option Name) (old new : Option (BTreeSet Name))
+    → o ≡ Some x → BlackensLeft g s (λ n. x ≡ n) old new → BlackensLeft g s (λ n. o ≡ Some n) old new
 left_some g s x o old new is l =
     left_as g s (λ n. x ≡ n) (λ n. o ≡ Some n) old new
     (λ n. (λ same. is ∙ ap Some same, λ e. let both : Some x ≡ Some n = sym is ∙ e in cc both)) l
@@ -130,7 +124,7 @@ pub left_either : (g : GraphState) (s : Stage) (x also : Option Name) (old mid n
     → BlackensLeft g s (IsEither x also) old new
 left_either g s x also old mid new a b =
     left_both g s (λ n. also ≡ Some n) (λ n. x ≡ Some n) (IsEither x also) old mid new
-    (λ n. (λ e. elim e [ inl h ↦ inr h | inr h ↦ inl h ], λ e. elim e [ inl h ↦ inr h | inr h ↦ inl h ])) a b
+    (λ n. (λ e. elim e [ inl h ↦ inr h | inr h ↦ inl h ], λ e. elim e [ inl h ↦ inr h | inr h ↦ inl h ])) (a, b)
 
 pub left_alone : (g : GraphState) (s : Stage) (x : Option Name) (old new : Option (BTreeSet Name))
     → BlackensLeft g s (λ n. x ≡ Some n) old new → BlackensLeft g s (IsEither x None) old new
@@ -138,9 +132,10 @@ left_alone g s x old new l =
     left_as g s (λ n. x ≡ Some n) (IsEither x None) old new
     (λ n. (λ e. inl e, λ e. elim e [ inl h ↦ h | inr h ↦ absurd (cc h) ])) l
 
--- the same, by names that are the same
+-- what turns black, by names that are the same
 pub left_read : (g : GraphState) (s : Stage) (x also y other : Option Name) (old new : Option (BTreeSet Name))
-    → (x ≡ y) × (also ≡ other) → BlackensLeft g s (IsEither x also) old new → BlackensLeft g s (IsEither y other) old new
+    → (x ≡ y) × (also ≡ other) → BlackensLeft g s (IsEither x also) old new
+    → BlackensLeft g s (IsEither y other) old new
 left_read g s x also y other old new same l =
     subst (λ (a : Option Name). BlackensLeft g s (IsEither a other) old new) same.0
     (subst (λ (b : Option Name). BlackensLeft g s (IsEither x b) old new) same.1 l)

@@ -19,12 +19,12 @@ loop-held-preserved c =
     elim c.match-held.branch [
       | in-Some+in_ok-add w ↦
           let at : get_or fields i None ≡ Some w.in-Some.name = cc (w.in-Some.is) in
-          subst (λ (s : Preparation). Adds g c.args.self.now s (λ x. Contains (take (i + 1) fields) (Some x))) (sym w.self-is)
-          (held_more g c.args.self.now c.loop-held.self w.add.new.self fields i w.in-Some.name c.loop-held-test.true at
-          c.loop-held.invariant w.in_ok-add.ensures)
+          subst (λ (s : Preparation). Adds g c.args.self.now s (λ x. Contains (take (i + 1) fields) (Some x)))
+          (sym w.self-is) (held_more g c.args.self.now c.loop-held.self w.add.new.self fields i w.in-Some.name
+          (record { below = c.loop-held-test.true; at = at }) c.loop-held.invariant w.in_ok-add.ensures)
       | in_default w ↦
-          subst (λ (s : Preparation). Adds g c.args.self.now s (λ x. Contains (take (i + 1) fields) (Some x))) (sym w.self-is)
-          (held_skip g c.args.self.now c.loop-held.self fields i c.loop-held-test.true
+          subst (λ (s : Preparation). Adds g c.args.self.now s (λ x. Contains (take (i + 1) fields) (Some x)))
+          (sym w.self-is) (held_skip g c.args.self.now c.loop-held.self fields i c.loop-held-test.true
           (λ y e. w.in_default.not-Some y e) c.loop-held.invariant)
     ]
 

@@ -23,8 +23,11 @@ pub returns-then-has_delegate : goal.returns-then-has_delegate
 returns-then-has_delegate c =
     on_ok_weaker c.add-then-has_delegate.result (λ a. keeps_key c.args.graph.now c.args.self.now
     c.add-then-has_delegate.new.self c.args.map c.args.key c.in-Some.value (sym c.value_of.ensures ∙ c.in-Some.is)
-    (c.is_black.ensures.0 c.if-not-is_black.false) (λ h. let has = c.is_black-2.ensures.1 h in cc (has, c.if-is_black.false))
-    (c.has_delegate.ensures.0 c.if-has_delegate.true) a) c.add-then-has_delegate.ensures
+    (record {
+      map_black = c.is_black.ensures.0 c.if-not-is_black.false;
+      key_not = λ h. let has = c.is_black-2.ensures.1 h in cc (has, c.if-is_black.false);
+      target_black = c.has_delegate.ensures.0 c.if-has_delegate.true;
+    }) a) c.add-then-has_delegate.ensures
 
 pub returns : goal.returns
 returns c =
