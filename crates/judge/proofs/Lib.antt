@@ -33,6 +33,7 @@ pub mod Resets
 pub mod LeftOut
 pub mod LeftStages
 pub mod Lying
+pub mod Laid
 pub mod Freed
 pub mod Determined
 pub mod Packing

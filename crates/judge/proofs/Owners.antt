@@ -23,6 +23,7 @@ use Rattle.plain_graph.specs.Indexed.{order_of}
 use Rattle.plain_graph.proofs.Indexes.{order_ties}
 use Rattle.judge.specs.Arenas.{Grows, owner_of, owners_of}
 use Rattle.judge.specs.Cells.{Cells}
+use Rattle.judge.specs.Places.{IsFree}
 use Rattle.judge.specs.Stages.{LiesIn, Shown}
 use Rattle.judge.specs.declared.arenas.Arena.{Arena}
 
@@ -116,6 +117,7 @@ from_none owners n zones rest none = ap (λ os. arenas_from n os zones ++ rest) 
 pub lies_same : (g : GraphState) (s t : Shown) → t.owners ≡ s.owners → t.cells ≡ s.cells → LiesIn g s t
 lies_same g s t owners cells = record {
   grows = inl owners;
+  free = λ x p is. inl (subst (λ (cs : Cells). tree.get order_of cs x ≡ Some p) cells is);
   owned = λ x p is. inl (subst (λ (cs : Cells). tree.get order_of cs x ≡ Some p) cells is);
 }
 
@@ -123,6 +125,10 @@ pub lies_after : (g : GraphState) (old mid new : Shown) → mid.owners ≡ old.o
     → LiesIn g mid new → LiesIn g old new
 lies_after g old mid new owners cells l = record {
   grows = subst (λ (os : List (Option ℕ)). Grows os new.owners) owners l.grows;
+  free = λ x p is. elim (l.free x p is) [
+    | inl was ↦ inl (subst (λ (cs : Cells). tree.get order_of cs x ≡ Some p) cells was)
+    | inr free ↦ inr (subst (λ (cs : Cells). IsFree cs p) cells free)
+  ];
   owned = λ x p is. elim (l.owned x p is) [
     | inl was ↦ inl (subst (λ (cs : Cells). tree.get order_of cs x ≡ Some p) cells was)
     | inr made ↦ inr made
@@ -133,6 +139,7 @@ pub lies_before : (g : GraphState) (old mid new : Shown) → new.owners ≡ mid.
     → LiesIn g old mid → LiesIn g old new
 lies_before g old mid new owners cells l = record {
   grows = subst (λ (os : List (Option ℕ)). Grows old.owners os) (sym owners) l.grows;
+  free = λ x p is. l.free x p (subst (λ (cs : Cells). tree.get order_of cs x ≡ Some p) cells is);
   owned = λ x p is. elim (l.owned x p (subst (λ (cs : Cells). tree.get order_of cs x ≡ Some p) cells is)) [
     | inl was ↦ inl was
     | inr (z, of, at) ↦ inr (z, of, ap (λ (os : List (Option ℕ)). slice_get os p.0) owners ∙ at)
@@ -145,11 +152,25 @@ pub record GetsPlace (g : GraphState) (old new : Shown) (x : Name) (z : ℕ) (p 
   pub grows : Grows old.owners new.owners
   pub owned : slice_get new.owners p.0 ≡ Some (Some z)
   pub updates : tree.Updates order_of old.cells new.cells x (Some p)
+  pub free : IsFree old.cells p
 
 pub lies_made : (g : GraphState) (old new : Shown) (x : Name) (z : ℕ) (p : Place) → GetsPlace g old new x z p
     → LiesIn g old new
-lies_made g old new x z p gets = record { grows = gets.grows; owned = λ y q is. go y q is (is_eq (order_of x y)) refl }
+lies_made g old new x z p gets = record {
+  grows = gets.grows;
+  free = λ y q is. none y q is (is_eq (order_of x y)) refl;
+  owned = λ y q is. go y q is (is_eq (order_of x y)) refl;
+}
   where
+    none : (y : Name) (q : Place) → tree.get order_of new.cells y ≡ Some q → (b : Bool) → is_eq (order_of x y) ≡ b
+        → (tree.get order_of old.cells y ≡ Some q) ⊎ IsFree old.cells q
+    none y q is true e =
+        let has : tree.get order_of new.cells y ≡ Some p =
+        gets.updates.0 y ∙ ap (λ b. cond b (Some p) (tree.get order_of old.cells y)) e in
+        let same : p ≡ q = cc (has, is) in
+        inr (subst (λ (r : Place). IsFree old.cells r) same gets.free)
+    none y q is false e = inl (sym (gets.updates.2 y e) ∙ is)
+
     go : (y : Name) (q : Place) → tree.get order_of new.cells y ≡ Some q → (b : Bool) → is_eq (order_of x y) ≡ b
         → (tree.get order_of old.cells y ≡ Some q)
         ⊎ ((u : ℕ) × (zone_of g y ≡ Some u) × (slice_get new.owners q.0 ≡ Some (Some u)))

@@ -2,6 +2,7 @@ pub mod Running
 pub mod Lines
 pub mod Former
 pub mod Walks
+pub mod Places
 pub mod Weak
 pub mod Cells
 pub mod Whites

@@ -25,6 +25,7 @@ use Rattle.judge.specs.LeftOut.{GrowsLeft, IsEither}
 use Rattle.judge.specs.Former.{IsFormer, Keeps, Releases, Takes}
 use Rattle.judge.specs.Bounds.{IsFirstTally, is_accepted, marking_tally, put_if, tally_of, with_sweep, with_units}
 use Rattle.judge.specs.Parts.{AreParts}
+use Rattle.judge.specs.Places.{IsFree}
 use Rattle.judge.specs.Groups.{AreAllowed, AreRefused, Forming}
 use Rattle.judge.specs.Starts.{IsBegun, IsListOf}
 use Rattle.plain_graph.specs.Indexed.{order_of}
@@ -156,9 +157,11 @@ BlackensLeft g idle P old new = new ≡ old
 BlackensLeft g (preparing zones) P old new = GrowsLeft g zones P old new
 BlackensLeft g (collecting zones marking groups) P old new = new ≡ old
 
--- an arena may be made, and a name that gets a place lies in an arena of its zone
+-- an arena may be made, and a name that gets a place lies in an arena of its zone, where no other cell lies
 pub record LiesIn (g : GraphState) (old new : Shown) : Type 0 where
   pub grows : Grows old.owners new.owners
+  pub free : (x : Name) (p : Place) → tree.get order_of new.cells x ≡ Some p
+      → (tree.get order_of old.cells x ≡ Some p) ⊎ IsFree old.cells p
   pub owned : (x : Name) (p : Place) → tree.get order_of new.cells x ≡ Some p
       → (tree.get order_of old.cells x ≡ Some p)
       ⊎ ((z : ℕ) × (zone_of g x ≡ Some z) × (slice_get new.owners p.0 ≡ Some (Some z)))

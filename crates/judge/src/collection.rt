@@ -24,6 +24,7 @@ ghost use Rattle.judge.specs.Starts.{AreBlackStarts, AreLiveStarts, IsBegun, IsB
 ghost use Rattle.judge.specs.Starts.{IsInSlot, IsListOf, IsOutside};
 
 use crate::former::is_in;
+use crate::places::lift;
 use crate::preparation::Preparation;
 use crate::tally::with_one;
 use crate::whites::Whites;
@@ -551,7 +552,7 @@ impl World {
         ensures told { OnOk result (self.new.told ≡ self.old.told) }
         ensures tally { OnOk result (self.new.tally ≡ self.old.tally) }
     {
-        let Some(place) = self.places.remove(&name) else {
+        let Some(place) = lift(&mut self.places, &mut self.lying, name) else {
             return Ok(());
         };
         self.arenas.take_back(place);

@@ -11,21 +11,18 @@ ghost use Rattle.colour_defs.specs.World.{target_cell};
 ghost use Rattle.judge.specs.Cells.{GivesPlace, GivesPlaces, HasCell, also_woken_in, made_in, named_in, woken_in};
 ghost use Rattle.judge.specs.Cells.{wrapper_in};
 ghost use Rattle.judge.specs.LeftOut.{IsEither};
-ghost use Rattle.judge.specs.Compaction.{GoTo, Packs, place_order};
+ghost use Rattle.judge.specs.Places.{AreLaid, place_order};
 ghost use Rattle.judge.specs.Bounds.{arena_count, tally_of, with_arenas};
 ghost use Rattle.judge.specs.Former.{Takes};
 ghost use Rattle.judge.specs.declared.former.Change.TheVariants as change;
-ghost use Rattle.judge.specs.Stages.{Blackens, BlackensLeft, BlackensOne, IsDue, IsFirst, IsOver, IsSettled, IsStarted};
-ghost use Rattle.judge.specs.Stages.{LiesIn, Wakes, WakesAny, counted_by, idle, limit_in, preparing, put_in, shown};
-ghost use Rattle.judge.specs.Stages.{stage_of, unfinished_in, woken_tally};
 ghost use Rattle.judge.specs.Starts.{LeavesOut};
 ghost use Rattle.judge.specs.Walks.{GoesOnFrom, IsBlackBy, left_out_of, walks_of};
-ghost use Rattle.judge.specs.Replies.{AreMade, IsRefusal};
 
 use crate::arenas::Arenas;
 use crate::collection::Collection;
 use crate::compaction::{Compacted, filled, free_places, lying_in};
 use crate::former::{Change, Former, is_in};
+use crate::places::{lay, shift};
 use crate::preparation::{Preparation, target_of};
 use crate::tally::{Tally, counts_entry, is_wrapper_in, marking_tally, with_one};
 use crate::weak::WeakNames;
@@ -79,6 +76,9 @@ pub struct World {
     pub alloc: Global,
     pub former: Former,
     pub places: BTreeMap<Name, Place>,
+    /// The cells by their places.
+    pub lying: BTreeMap<Place, Name>,
+    ghost laid: { AreLaid places lying },
     pub arenas: Arenas,
     /// The white cells of groups that have ended, until they are swept.
     pub whites: Whites,
@@ -93,6 +93,12 @@ pub struct World {
 }
 
 impl World {
+    ghost use Rattle.judge.specs.Compaction.{GoTo, Packs};
+    ghost use Rattle.judge.specs.Stages.{Blackens, BlackensLeft, BlackensOne, IsDue, IsFirst, IsOver, IsSettled};
+    ghost use Rattle.judge.specs.Stages.{IsStarted, LiesIn, Wakes, WakesAny, counted_by, idle, limit_in, preparing};
+    ghost use Rattle.judge.specs.Stages.{put_in, shown, stage_of, unfinished_in, woken_tally};
+    ghost use Rattle.judge.specs.Replies.{AreMade, IsRefusal};
+
     pub fn new(alloc: Global) -> Self
         ensures { IsFirst (shown result) }
     {
@@ -100,6 +106,7 @@ impl World {
             alloc,
             former: Former::new(alloc),
             places: BTreeMap::new(alloc),
+            lying: BTreeMap::new(alloc),
             arenas: Arenas::new(alloc),
             whites: Whites::new(alloc),
             black: Walk::new(alloc),
@@ -341,7 +348,7 @@ impl World {
             return Ok(());
         };
         let place = self.arenas.give(zone)?;
-        self.places.insert(name, place)?;
+        lay(&mut self.places, &mut self.lying, name, place)?;
         Ok(())
     }
 
@@ -461,7 +468,7 @@ impl World {
             };
             next += 1;
             self.arenas.occupy(place);
-            self.places.insert(*name, place)?;
+            shift(&mut self.places, &mut self.lying, *name, place)?;
         }
         Ok(())
     }

@@ -25,10 +25,11 @@ returns-clause-lies c =
       of = sym c.in-Some.ensures;
       grows = c.in_ok-place.ensures.grows;
       owned = c.in_ok-place.ensures.owned;
-      updates = c.in_ok-insert.ensures.updates;
+      updates = c.in_ok-lay.ensures.updates;
+      free = c.in_ok-lay.ensures.free c.args.self.now.laid;
     })
 
 pub returns-clause-places : goal.returns-clause-places
 returns-clause-places c =
-    gives_made c.args.graph.now c.args.self.now.places c.insert.new.self c.args.name c.in_ok-place.place
-    (λ h. let t = c.is_present.ensures.1 h in cc (t, c.if-is_present.false)) c.in_ok-insert.ensures.updates
+    gives_made c.args.graph.now c.args.self.now.places c.lay.new.places c.args.name c.in_ok-place.place
+    (λ h. let t = c.is_present.ensures.1 h in cc (t, c.if-is_present.false)) c.in_ok-lay.ensures.updates
