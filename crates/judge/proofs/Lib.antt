@@ -34,6 +34,7 @@ pub mod LeftOut
 pub mod LeftStages
 pub mod Lying
 pub mod Laid
+pub mod Flags
 pub mod Freed
 pub mod Determined
 pub mod Packing

@@ -157,9 +157,12 @@ BlackensLeft g idle P old new = new ≡ old
 BlackensLeft g (preparing zones) P old new = GrowsLeft g zones P old new
 BlackensLeft g (collecting zones marking groups) P old new = new ≡ old
 
--- an arena may be made, and a name that gets a place lies in an arena of its zone, where no other cell lies
+-- an arena may be made, and a name that gets a place lies in an arena of its zone that is not out, where no other cell
+-- lies
 pub record LiesIn (g : GraphState) (old new : Shown) : Type 0 where
   pub grows : Grows old.owners new.owners
+  pub kept : (x : Name) (p : Place) → tree.get order_of new.cells x ≡ Some p
+      → (tree.get order_of old.cells x ≡ Some p) ⊎ (Contains old.out p.0 → ⊥)
   pub free : (x : Name) (p : Place) → tree.get order_of new.cells x ≡ Some p
       → (tree.get order_of old.cells x ≡ Some p) ⊎ IsFree old.cells p
   pub owned : (x : Name) (p : Place) → tree.get order_of new.cells x ≡ Some p

@@ -11,7 +11,8 @@ pub returns-clause-lies : goal.returns-clause-lies
 returns-clause-lies c =
     let same = c.in_ok-take.ensures.same in
     on_ok_weaker c.wake_any.result (λ l. lies_after c.args.graph.now (shown c.args.self.now) (shown c.take.new.self)
-    (shown c.wake_any.new.self) (ap (λ (s : Shown). s.owners) same) (ap (λ (s : Shown). s.cells) same) l)
+    (shown c.wake_any.new.self) (ap (λ (s : Shown). s.owners) same) (ap (λ (s : Shown). s.cells) same)
+    (ap (λ (s : Shown). s.out) same) l)
     c.wake_any.ensures.lies
 
 pub returns-clause-left_out : goal.returns-clause-left_out

@@ -1,3 +1,4 @@
+use Rattle.judge.proofs.Flags.{contains_reversed}
 use Rattle.std.proofs.Common.{◌∙◌, refl, sym}
 use Rattle.judge.specs.Stages.{shown}
 use Rattle.judge.proofs.Owners.{lies_made, lies_same}
@@ -27,6 +28,7 @@ returns-clause-lies c =
       owned = c.in_ok-place.ensures.owned;
       updates = c.in_ok-lay.ensures.updates;
       free = c.in_ok-lay.ensures.free c.args.self.now.laid;
+      kept = λ h. c.in_ok-place.ensures.kept (contains_reversed c.args.self.now.arenas.out.items _ h);
     })
 
 pub returns-clause-places : goal.returns-clause-places

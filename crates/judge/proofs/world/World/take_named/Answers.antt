@@ -11,7 +11,7 @@ returns-clause-lies c =
     let same = c.in_ok-count_woken.ensures.same in
     on_ok_weaker c.wake_any.result (λ l. lies_after c.args.graph.now (shown c.args.self.now)
     (shown c.count_woken.new.self) (shown c.wake_any.new.self) (ap (λ (s : Shown). s.owners) same)
-    (ap (λ (s : Shown). s.cells) same) l) c.wake_any.ensures.lies
+    (ap (λ (s : Shown). s.cells) same) (ap (λ (s : Shown). s.out) same) l) c.wake_any.ensures.lies
 
 pub returns-clause-left_out : goal.returns-clause-left_out
 returns-clause-left_out c =
