@@ -21,12 +21,12 @@ use Rattle.gz_names.specs.Order.{name_cmp, names_total}
 use Rattle.colour_defs.specs.declared.graph.Object.{Object}
 use Rattle.colour_defs.specs.Graph.{GraphState, has_wrapper, register_cell, slot_cell, zone_of}
 use Rattle.colour_defs.specs.Step.{is_in_comp, named_or_null, new_map, new_object, refusal_in, refuse, step_of}
-use Rattle.colour_defs.specs.Step.{target_of, with_register, wrap_from}
-use Rattle.colour_defs.specs.World.{woken_by_wrap}
+use Rattle.colour_defs.specs.Step.{target_of, unwrap_from, with_register, wrap_from}
+use Rattle.colour_defs.specs.World.{target_cell, woken_by_wrap}
 use Rattle.plain_graph.specs.Indexed.{order_of}
 use Rattle.plain_graph.proofs.Indexes.{order_ties}
-use Rattle.judge.specs.Cells.{Cells, GivesPlace, HasCell, made_in, named_in, unless_refused, wakes, woken_in}
-use Rattle.judge.specs.Cells.{wrapper_in}
+use Rattle.judge.specs.Cells.{Cells, GivesPlace, HasCell, also_woken_in, made_in, named_in, unless_refused, wakes}
+use Rattle.judge.specs.Cells.{wakes_also, woken_in, wrapper_in}
 
 pub order_is : (a b : Name) → order_of a b ≡ name_cmp a b
 order_is (Cell a) (Cell b) = refl
@@ -161,3 +161,51 @@ none_woken (cmd.Map a b) r new map wrap expose = absurd (map a b refl)
 none_woken (cmd.Wrap a s b) r new map wrap expose = absurd (wrap a s b refl)
 none_woken (cmd.Expose a s) r new map wrap expose = absurd (expose a s refl)
 none_woken c r new map wrap expose = refl
+
+-- what a reply says of a second name that a command wakes is what the definitions say
+also_by_is : (made here known : Bool) (g : GraphState) (r : ℕ) (c : CompNo) (t : ℕ)
+    → target_cell (named_in (wrapped_by made here known g r c t).1)
+    ≡ unless_refused (refusal_in (wrapped_by made here known g r c t).1) (Some (Cell t))
+also_by_is true true known g r c t = refl
+also_by_is true false true g r c t = refl
+also_by_is true false false g r c t = refl
+also_by_is false true known g r c t = refl
+also_by_is false false known g r c t = refl
+
+also_wrapped_is : (g : GraphState) (r : ℕ) (x : Option Name) (c : CompNo)
+    → target_cell (named_in (wrap_from g r x c).1) ≡ unless_refused (refusal_in (wrap_from g r x c).1) (target_cell x)
+also_wrapped_is g r None c = refl
+also_wrapped_is g r (Some x) c =
+    also_by_is (nat_lt c.0 (length g.comps)) (is_in_comp g c (Cell (target_of x))) (has_wrapper g c (target_of x)) g r
+    c (target_of x)
+
+also_unwrapped_is : (g : GraphState) (r : ℕ) (x : Option Name)
+    → target_cell (named_in (unwrap_from g r x).1) ≡ unless_refused (refusal_in (unwrap_from g r x).1) (target_cell x)
+also_unwrapped_is g r None = refl
+also_unwrapped_is g r (Some (Cell n)) = refl
+also_unwrapped_is g r (Some (Wrap c t)) = refl
+
+pub also_woken_is : (g : GraphState) (c : GraphCmd) → also_woken_in c (step_of g c).1 ≡ wakes_also g c
+also_woken_is g (cmd.Wrap r s c) = also_wrapped_is g r (register_cell g s) c
+also_woken_is g (cmd.Unwrap r s) = also_unwrapped_is g r (register_cell g s)
+also_woken_is g cmd.Zone = none_either (refusal_in (step_of g cmd.Zone).1)
+also_woken_is g (cmd.Comp z) = none_either (refusal_in (step_of g (cmd.Comp z)).1)
+also_woken_is g (cmd.New r c n) = none_either (refusal_in (step_of g (cmd.New r c n)).1)
+also_woken_is g (cmd.Map r c) = none_either (refusal_in (step_of g (cmd.Map r c)).1)
+also_woken_is g (cmd.Get r s f) = none_either (refusal_in (step_of g (cmd.Get r s f)).1)
+also_woken_is g (cmd.Set s f t) = none_either (refusal_in (step_of g (cmd.Set s f t)).1)
+also_woken_is g (cmd.Copy r s) = none_either (refusal_in (step_of g (cmd.Copy r s)).1)
+also_woken_is g (cmd.Drop r) = none_either (refusal_in (step_of g (cmd.Drop r)).1)
+also_woken_is g (cmd.Hold s r) = none_either (refusal_in (step_of g (cmd.Hold s r)).1)
+also_woken_is g (cmd.Release s) = none_either (refusal_in (step_of g (cmd.Release s)).1)
+also_woken_is g (cmd.Expose r s) = none_either (refusal_in (step_of g (cmd.Expose r s)).1)
+also_woken_is g (cmd.Put m k v) = none_either (refusal_in (step_of g (cmd.Put m k v)).1)
+also_woken_is g (cmd.Del m k) = none_either (refusal_in (step_of g (cmd.Del m k)).1)
+also_woken_is g (cmd.Find r m k) = none_either (refusal_in (step_of g (cmd.Find r m k)).1)
+
+-- a command that wakes no second name
+pub none_also : (c : GraphCmd) (r : Reply) → ((a s : ℕ) (b : CompNo) → c ≡ cmd.Wrap a s b → ⊥)
+    → ((a s : ℕ) → c ≡ cmd.Unwrap a s → ⊥) → None ≡ also_woken_in c r
+none_also (cmd.Wrap a s b) r wrap unwrap = absurd (wrap a s b refl)
+none_also (cmd.Unwrap a s) r wrap unwrap = absurd (unwrap a s refl)
+none_also c r wrap unwrap = refl

@@ -11,7 +11,8 @@ use Rattle.colour_defs.specs.Compaction.{IsBefore}
 use Rattle.colour_defs.specs.Ends.{arenas_from}
 use Rattle.colour_defs.specs.Graph.{is_among}
 use Rattle.colour_defs.proofs.Lists.{nothing_in_none, contains_head, contains_tail, contains_cases}
-use Rattle.judge.specs.Compaction.{Lying, free_in, free_slots, place_order}
+use Rattle.judge.specs.Compaction.{free_in, free_slots}
+use Rattle.judge.specs.Places.{Lying, place_order}
 use Rattle.judge.proofs.Owners.{from_first}
 
 -- the first of the slots that are left

@@ -30,7 +30,11 @@ pub mod Starts
 pub mod Taking
 pub mod GivenUp
 pub mod Resets
+pub mod LeftOut
+pub mod LeftStages
 pub mod Lying
+pub mod Laid
+pub mod Flags
 pub mod Freed
 pub mod Determined
 pub mod Packing

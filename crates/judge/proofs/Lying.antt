@@ -13,7 +13,8 @@ use Rattle.gz_names.specs.declared.numbers.Place.{Place}
 use Rattle.colour_defs.proofs.Lists.{nothing_in_none, contains_head, contains_tail, contains_cases}
 use Rattle.plain_graph.specs.Indexed.{order_of}
 use Rattle.judge.specs.Cells.{Cells}
-use Rattle.judge.specs.Compaction.{AreLying, Lays, Lying, place_order}
+use Rattle.judge.specs.Compaction.{AreLying, Lays}
+use Rattle.judge.specs.Places.{Lying, place_order}
 use Rattle.judge.proofs.Cells.{names_exact, names_ordered}
 
 pub places_total : IsTotalOrder place_order
@@ -22,7 +23,7 @@ places_total = then_total (on_total (λ (p : Place). p.0) nat_cmp_total) (on_tot
 pub places_exact : CmpEqualImpliesEq place_order
 places_exact = exact_pairs nat_cmp nat_cmp exact_unsigned exact_unsigned
 
-place_ties : (p q : Place) → is_eq (place_order p q) ≡ true → p ≡ q
+pub place_ties : (p q : Place) → is_eq (place_order p q) ≡ true → p ≡ q
 place_ties p q e = tells_apart places_exact p q e
 
 place_itself : (p : Place) → is_eq (place_order p p) ≡ true

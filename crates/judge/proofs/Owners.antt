@@ -1,7 +1,7 @@
 -- Whose the arenas are, and which are out.
 use Rattle.std.proofs.Common.{◌≡◌, ◌∙◌, ◌↔◌, ◌⊎◌, inl, inr, ℕ, ◌+◌, ◌<◌, ◌≤◌, Bool, true, false, cond, List, [], ◌∷◌}
 use Rattle.std.proofs.Common.{◌++◌, length, get_or, drop, map, reverse, set, Option, Some, None, refl, sym, ap, subst}
-use Rattle.std.proofs.Common.{arith, IsTrue}
+use Rattle.std.proofs.Common.{arith, Contains, IsTrue}
 use Rattle.std.specs.Prelude.{nat_eq, slice_get}
 use Rattle.std.specs.BTreeMap as tree
 use Rattle.std.specs.List.{list_any}
@@ -23,6 +23,7 @@ use Rattle.plain_graph.specs.Indexed.{order_of}
 use Rattle.plain_graph.proofs.Indexes.{order_ties}
 use Rattle.judge.specs.Arenas.{Grows, owner_of, owners_of}
 use Rattle.judge.specs.Cells.{Cells}
+use Rattle.judge.specs.Places.{IsFree}
 use Rattle.judge.specs.Stages.{LiesIn, Shown}
 use Rattle.judge.specs.declared.arenas.Arena.{Arena}
 
@@ -116,13 +117,23 @@ from_none owners n zones rest none = ap (λ os. arenas_from n os zones ++ rest) 
 pub lies_same : (g : GraphState) (s t : Shown) → t.owners ≡ s.owners → t.cells ≡ s.cells → LiesIn g s t
 lies_same g s t owners cells = record {
   grows = inl owners;
+  kept = λ x p is. inl (subst (λ (cs : Cells). tree.get order_of cs x ≡ Some p) cells is);
+  free = λ x p is. inl (subst (λ (cs : Cells). tree.get order_of cs x ≡ Some p) cells is);
   owned = λ x p is. inl (subst (λ (cs : Cells). tree.get order_of cs x ≡ Some p) cells is);
 }
 
 pub lies_after : (g : GraphState) (old mid new : Shown) → mid.owners ≡ old.owners → mid.cells ≡ old.cells
-    → LiesIn g mid new → LiesIn g old new
-lies_after g old mid new owners cells l = record {
+    → mid.out ≡ old.out → LiesIn g mid new → LiesIn g old new
+lies_after g old mid new owners cells out l = record {
+  kept = λ x p is. elim (l.kept x p is) [
+    | inl was ↦ inl (subst (λ (cs : Cells). tree.get order_of cs x ≡ Some p) cells was)
+    | inr kept ↦ inr (subst (λ (os : List ℕ). Contains os p.0 → ⊥) out kept)
+  ];
   grows = subst (λ (os : List (Option ℕ)). Grows os new.owners) owners l.grows;
+  free = λ x p is. elim (l.free x p is) [
+    | inl was ↦ inl (subst (λ (cs : Cells). tree.get order_of cs x ≡ Some p) cells was)
+    | inr free ↦ inr (subst (λ (cs : Cells). IsFree cs p) cells free)
+  ];
   owned = λ x p is. elim (l.owned x p is) [
     | inl was ↦ inl (subst (λ (cs : Cells). tree.get order_of cs x ≡ Some p) cells was)
     | inr made ↦ inr made
@@ -133,6 +144,8 @@ pub lies_before : (g : GraphState) (old mid new : Shown) → new.owners ≡ mid.
     → LiesIn g old mid → LiesIn g old new
 lies_before g old mid new owners cells l = record {
   grows = subst (λ (os : List (Option ℕ)). Grows old.owners os) (sym owners) l.grows;
+  kept = λ x p is. l.kept x p (subst (λ (cs : Cells). tree.get order_of cs x ≡ Some p) cells is);
+  free = λ x p is. l.free x p (subst (λ (cs : Cells). tree.get order_of cs x ≡ Some p) cells is);
   owned = λ x p is. elim (l.owned x p (subst (λ (cs : Cells). tree.get order_of cs x ≡ Some p) cells is)) [
     | inl was ↦ inl was
     | inr (z, of, at) ↦ inr (z, of, ap (λ (os : List (Option ℕ)). slice_get os p.0) owners ∙ at)
@@ -145,11 +158,31 @@ pub record GetsPlace (g : GraphState) (old new : Shown) (x : Name) (z : ℕ) (p 
   pub grows : Grows old.owners new.owners
   pub owned : slice_get new.owners p.0 ≡ Some (Some z)
   pub updates : tree.Updates order_of old.cells new.cells x (Some p)
+  pub free : IsFree old.cells p
+  pub kept : Contains old.out p.0 → ⊥
 
 pub lies_made : (g : GraphState) (old new : Shown) (x : Name) (z : ℕ) (p : Place) → GetsPlace g old new x z p
     → LiesIn g old new
-lies_made g old new x z p gets = record { grows = gets.grows; owned = λ y q is. go y q is (is_eq (order_of x y)) refl }
+lies_made g old new x z p gets = record {
+  grows = gets.grows;
+  kept = λ y q is. elim (again y q is (is_eq (order_of x y)) refl) [
+    | inl same ↦ inr (λ c. gets.kept (subst (λ (r : Place). Contains old.out r.0) (sym same) c))
+    | inr was ↦ inl was
+  ];
+  free = λ y q is. elim (again y q is (is_eq (order_of x y)) refl) [
+    | inl same ↦ inr (subst (λ (r : Place). IsFree old.cells r) same gets.free)
+    | inr was ↦ inl was
+  ];
+  owned = λ y q is. go y q is (is_eq (order_of x y)) refl;
+}
   where
+    again : (y : Name) (q : Place) → tree.get order_of new.cells y ≡ Some q → (b : Bool) → is_eq (order_of x y) ≡ b
+        → (p ≡ q) ⊎ (tree.get order_of old.cells y ≡ Some q)
+    again y q is true e =
+        let has : tree.get order_of new.cells y ≡ Some p =
+        gets.updates.0 y ∙ ap (λ b. cond b (Some p) (tree.get order_of old.cells y)) e in inl (cc (has, is))
+    again y q is false e = inr (sym (gets.updates.2 y e) ∙ is)
+
     go : (y : Name) (q : Place) → tree.get order_of new.cells y ≡ Some q → (b : Bool) → is_eq (order_of x y) ≡ b
         → (tree.get order_of old.cells y ≡ Some q)
         ⊎ ((u : ℕ) × (zone_of g y ≡ Some u) × (slice_get new.owners q.0 ≡ Some (Some u)))

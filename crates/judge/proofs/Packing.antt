@@ -31,7 +31,8 @@ use Rattle.colour_defs.proofs.ZoneSets.{zones_in-ascending, zones_in-has}
 use Rattle.plain_graph.specs.Indexed.{order_of}
 use Rattle.plain_graph.proofs.Indexes.{order_itself, order_ties}
 use Rattle.judge.specs.Cells.{Cells}
-use Rattle.judge.specs.Compaction.{AreLying, GoTo, Lies, Lying, Packs, free_in, place_order}
+use Rattle.judge.specs.Compaction.{AreLying, GoTo, Lies, Packs, free_in}
+use Rattle.judge.specs.Places.{Lying, place_order}
 use Rattle.judge.specs.Replies.{AreMade, IsRefusal}
 use Rattle.judge.specs.Stages.{Shown, Stage}
 use Rattle.judge.proofs.Determined.{determined, never_before}

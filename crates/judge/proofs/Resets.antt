@@ -47,7 +47,7 @@ black_so_far g s phase.Idle (phase.Preparing q) u c x = absurd (let e = c.stage 
 black_so_far g s phase.Idle (phase.Collecting l) u c x = absurd (let e = c.stage in cc e)
 black_so_far g s (phase.Preparing p) phase.Idle u c x = absurd (let e = c.stage in cc e)
 black_so_far g s (phase.Preparing p) (phase.Preparing q) u c x =
-    let same : Some q.black.names ≡ s.left_out = c.left_out ∙ sym c.left_was in (
+    let same : Some q.black ≡ s.left_out = c.left_out ∙ sym c.left_was in (
       λ h. subst (λ (o : Option (BTreeSet Name)). IsLeftBlack o x) same h,
       λ h. subst (λ (o : Option (BTreeSet Name)). IsLeftBlack o x) (sym same) h,
     )

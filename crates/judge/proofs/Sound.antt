@@ -11,7 +11,7 @@ use Rattle.gz_names.specs.declared.replies.Report.{Report}
 use Rattle.gz_names.specs.declared.replies.Report.TheVariants as report
 use Rattle.colour_defs.specs.Graph.{GraphState, empty_graph, register_cell}
 use Rattle.plain_graph.specs.Reach.{WalkState}
-use Rattle.judge.specs.Cells.{wakes}
+use Rattle.judge.specs.Cells.{wakes, wakes_also}
 use Rattle.judge.specs.Former.{IsFormer, Releases, changed}
 use Rattle.judge.specs.Replies.{Asks, AsksCompact, AsksUnwatch, AsksWatch, AsksWeak, graph_after_weak}
 use Rattle.judge.specs.Replies.{Begins, Due, IsAnswered, IsLast, Steps, graph_after, dump, nothing, reply}
@@ -53,9 +53,9 @@ walks_before s (Some x) (Some v) new w (after, is, woken) e =
 walked_as : (g h : GraphState) (v w : WalkState) → h ≡ g → w ≡ v → IsWalked g v → IsWalked h w
 walked_as g h v w e f is = subst (λ k. IsWalked k w) (sym e) (subst (IsWalked g) (sym f) is)
 
-sound_changes : (k : Change) (g : GraphState) (x : Option Name) (old new : Shown) → Changes k (changed g k) x old new
-    → IsSound g old → IsSound (changed g k) new
-sound_changes k g x old new o is =
+sound_changes : (k : Change) (g : GraphState) (x also : Option Name) (old new : Shown)
+    → Changes k (changed g k) x also old new → IsSound g old → IsSound (changed g k) new
+sound_changes k g x also old new o is =
     let stage = o.stage_is in record {
       former = o.takes.former g is.former;
       none_kept = λ e. o.takes.kept_is ∙ is.none_kept (sym stage ∙ e);
@@ -97,7 +97,7 @@ sound_weak : (g : GraphState) (c : WeakCmd) (due : Due) (old new : Shown) → As
     → IsSound (graph_after_weak g old c) new
 sound_weak g (weak_command.Weaken q r) due old new (d, same) is = sound_beside g old new _ old.told same is
 sound_weak g (weak_command.Deref r q) due old new (d, taken) is =
-    sound_changes (change.Take r (weak_slot old.weak q)) g _ old new taken.changes is
+    sound_changes (change.Take r (weak_slot old.weak q)) g _ _ old new taken.changes is
 sound_weak g (weak_command.Watch r) due old new asked is = sound_watch g (register_cell g r) due old new asked is
 sound_weak g (weak_command.Unwatch r) due old new asked is = sound_unwatch g (register_cell g r) due old new asked is
 
@@ -129,7 +129,7 @@ sound_compact g zone due old new (inr (idle_is, made, moved, given_up, d, packs)
 sound_asks : (g : GraphState) (c : Cmd) (due : Due) (old new : Shown) → Asks g old c due new → IsSound g old
     → IsSound (graph_after g old c) new
 sound_asks g (command.Graph c) due old new (d, o) is =
-    sound_changes (change.Command c) g (wakes g c) old new o.changes is
+    sound_changes (change.Command c) g (wakes g c) (wakes_also g c) old new o.changes is
 sound_asks g (command.Gc zones) due old new b is = sound_begins g zones _ due old new b is
 sound_asks g (command.Slice n) due old new (d, same) is = sound_same g old new same is
 sound_asks g command.Finish due old new (d, same) is = sound_same g old new same is

@@ -14,7 +14,7 @@ use Rattle.gz_names.specs.declared.replies.Reply.TheVariants as reply
 use Rattle.gz_names.specs.declared.replies.Refusal.{Refusal}
 use Rattle.colour_defs.specs.Graph.{GraphState, IsInZones, zone_of}
 use Rattle.colour_defs.specs.Step.{step_of, refusal_in}
-use Rattle.colour_defs.specs.World.{woken_by}
+use Rattle.colour_defs.specs.World.{also_woken_by, target_cell, woken_by}
 use Rattle.colour_defs.specs.Ends.{Lists}
 use Rattle.plain_graph.specs.Indexed.{order_of}
 use Rattle.judge.specs.Walks.{IsFoundBlack, IsFoundLive, Walks}
@@ -48,6 +48,10 @@ unless_refused None x = x
 abbrev pub wakes : GraphState → GraphCmd → Option Name
 wakes g c = unless_refused (refusal_in (step_of g c).1) (woken_by g c)
 
+-- a second name that it wakes while zones are being prepared: what is read through a wrapper
+abbrev pub wakes_also : GraphState → GraphCmd → Option Name
+wakes_also g c = unless_refused (refusal_in (step_of g c).1) (also_woken_by g c)
+
 -- what a reply says was made, and what it names
 abbrev pub made_in : Reply → Option Name
 made_in (reply.Made n) = Some (Cell n)
@@ -80,6 +84,25 @@ woken_in (cmd.Expose a s) r = named_in r
 woken_in (cmd.Put m k v) r = None
 woken_in (cmd.Del m k) r = None
 woken_in (cmd.Find a m k) r = None
+
+-- a second name that a command wakes while zones are being prepared, by its reply
+abbrev pub also_woken_in : GraphCmd → Reply → Option Name
+also_woken_in cmd.Zone r = None
+also_woken_in (cmd.Comp z) r = None
+also_woken_in (cmd.New a c n) r = None
+also_woken_in (cmd.Map a c) r = None
+also_woken_in (cmd.Get a b f) r = None
+also_woken_in (cmd.Set b f t) r = None
+also_woken_in (cmd.Wrap a b c) r = target_cell (named_in r)
+also_woken_in (cmd.Unwrap a b) r = target_cell (named_in r)
+also_woken_in (cmd.Copy a b) r = None
+also_woken_in (cmd.Drop a) r = None
+also_woken_in (cmd.Hold s a) r = None
+also_woken_in (cmd.Release s) r = None
+also_woken_in (cmd.Expose a s) r = None
+also_woken_in (cmd.Put m k v) r = None
+also_woken_in (cmd.Del m k) r = None
+also_woken_in (cmd.Find a m k) r = None
 
 -- a cell of these zones is gray or white, by the names that were found black and live
 abbrev pub IsGrayBy : GraphState → List ℕ → List Name → List Name → Name → Type 0

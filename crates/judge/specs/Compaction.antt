@@ -2,17 +2,15 @@
 use Rattle.std.specs.Prelude.{◌≡◌, ◌↔◌, ◌⊎◌, ℕ, zero, suc, ◌+◌, List, [], ◌∷◌, ◌++◌, Some, None, Contains}
 use Rattle.std.specs.Prelude.{is_some, if◌then◌else◌}
 use Rattle.std.specs.BTreeMap as tree
-use Rattle.std.specs.BTreeMap.{BTreeMap}
 use Rattle.std.specs.FinMap as map
-use Rattle.std.specs.declared.cmp.Ordering.{Ordering}
 use Rattle.gz_names.specs.declared.names.Name.{Name}
 use Rattle.gz_names.specs.declared.numbers.Place.{Place}
-use Rattle.gz_names.specs.contracts.numbers.PlaceOrd.TheImpl as place_ord
 use Rattle.colour_defs.specs.Compaction.{Compacts}
 use Rattle.colour_defs.specs.Graph.{GraphState}
 use Rattle.colour_defs.specs.World.{IsIdle, World}
 use Rattle.plain_graph.specs.Indexed.{order_of}
 use Rattle.judge.specs.Cells.{Cells}
+use Rattle.judge.specs.Places.{Lying, place_order}
 use Rattle.judge.specs.Stages.{Shown}
 
 -- a world of the definitions for which the judge's stands while no collection runs: they have the same graph, the same
@@ -29,14 +27,6 @@ pub record Packs (g : GraphState) (zone : ℕ) (old : Shown) (moved given_up : �
   pub lawful : (w : World) → Lies g old w → (v : World) × Compacts w zone moved given_up v × Lies g new v
   pub only : (w : World) (v : World) (m n : ℕ) → Lies g old w → Compacts w zone m n v → (m ≡ moved) × (n ≡ given_up)
   pub new_is : new ≡ record old { owners = new.owners; cells = new.cells }
-
--- the order of places, as their type has it
-abbrev pub place_order : Place → Place → Ordering
-place_order = (place_ord.ghosts).cmp
-
--- which cell lies in a place
-abbrev pub Lying : Type 0
-Lying = BTreeMap Place Name
 
 -- these are the cells that lie in some arenas
 abbrev pub AreLying : List ℕ → Cells → Lying → Type 0

@@ -2,11 +2,14 @@ pub mod Running
 pub mod Lines
 pub mod Former
 pub mod Walks
+pub mod Places
 pub mod Weak
 pub mod Cells
 pub mod Whites
+pub mod OutArenas
 pub mod Arenas
 pub mod Starts
+pub mod LeftOut
 pub mod Parts
 pub mod Bounds
 pub mod Edges

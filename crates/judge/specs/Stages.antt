@@ -20,10 +20,12 @@ use Rattle.colour_defs.specs.Units.{MeetsUnitBound, Tally, sweeps_in, unit_limit
 use Rattle.colour_defs.specs.World.{woken_by}
 use Rattle.trace_lang.specs.Texts.{report_text, told_text}
 use Rattle.judge.specs.Arenas.{Grows, owners_in}
-use Rattle.judge.specs.Cells.{Cells, Colours, GivesPlaces, HasCell, IsWhite, wakes, woken_in}
+use Rattle.judge.specs.Cells.{Cells, Colours, GivesPlaces, HasCell, IsWhite, wakes, wakes_also, woken_in}
+use Rattle.judge.specs.LeftOut.{GrowsLeft, IsEither}
 use Rattle.judge.specs.Former.{IsFormer, Keeps, Releases, Takes}
 use Rattle.judge.specs.Bounds.{IsFirstTally, is_accepted, marking_tally, put_if, tally_of, with_sweep, with_units}
 use Rattle.judge.specs.Parts.{AreParts}
+use Rattle.judge.specs.Places.{IsFree}
 use Rattle.judge.specs.Groups.{AreAllowed, AreRefused, Forming}
 use Rattle.judge.specs.Starts.{IsBegun, IsListOf}
 use Rattle.plain_graph.specs.Indexed.{order_of}
@@ -148,9 +150,21 @@ abbrev pub Blackens : GraphState → Stage → Option Name → WalkState → Wal
 Blackens g s None old new = new ≡ old
 Blackens g s (Some x) old new = BlackensOne g s x old new
 
--- an arena may be made, and a name that gets a place lies in an arena of its zone
+-- while zones are being prepared, of those that are left out these names turn black, with what is reached from there
+abbrev pub BlackensLeft : GraphState → Stage → (Name → Type 0) → Option (BTreeSet Name) → Option (BTreeSet Name)
+    → Type 0
+BlackensLeft g idle P old new = new ≡ old
+BlackensLeft g (preparing zones) P old new = GrowsLeft g zones P old new
+BlackensLeft g (collecting zones marking groups) P old new = new ≡ old
+
+-- an arena may be made, and a name that gets a place lies in an arena of its zone that is not out, where no other cell
+-- lies
 pub record LiesIn (g : GraphState) (old new : Shown) : Type 0 where
   pub grows : Grows old.owners new.owners
+  pub kept : (x : Name) (p : Place) → tree.get order_of new.cells x ≡ Some p
+      → (tree.get order_of old.cells x ≡ Some p) ⊎ (Contains old.out p.0 → ⊥)
+  pub free : (x : Name) (p : Place) → tree.get order_of new.cells x ≡ Some p
+      → (tree.get order_of old.cells x ≡ Some p) ⊎ IsFree old.cells p
   pub owned : (x : Name) (p : Place) → tree.get order_of new.cells x ≡ Some p
       → (tree.get order_of old.cells x ≡ Some p)
       ⊎ ((z : ℕ) × (zone_of g x ≡ Some z) × (slice_get new.owners p.0 ≡ Some (Some z)))
@@ -181,13 +195,15 @@ abbrev pub tally_unless : Option Refusal → GraphState → Stage → GraphCmd �
 tally_unless (Some why) g s c t = t
 tally_unless None g s c t = counts_for g s c t
 
--- a change of the graph, by the graph after it and the name that it wakes
-pub record Changes (k : Change) (h : GraphState) (x : Option Name) (old new : Shown) : Type 0 where
+-- a change of the graph, by the graph after it, the name that it wakes, and a second one that it wakes while zones are
+-- being prepared
+pub record Changes (k : Change) (h : GraphState) (x also : Option Name) (old new : Shown) : Type 0 where
   pub places : GivesPlaces h x old.cells new.cells
   pub lies : LiesIn h old new
   pub takes : Takes k old.former new.former
   pub walks : WakesAny old.stage x old.walks new.walks
   pub blackens : Blackens h old.stage x old.black new.black
+  pub left_out : BlackensLeft h old.stage (IsEither x also) old.left_out new.left_out
   pub stage_is : new.stage ≡ old.stage
   pub out_is : new.out ≡ old.out
   pub whites_is : new.whites ≡ old.whites
@@ -196,12 +212,12 @@ pub record Changes (k : Change) (h : GraphState) (x : Option Name) (old new : Sh
 
 -- a register takes what a weak slot names, which is woken as what a gray slot hands out is
 pub record TakesNamed (g : GraphState) (r : ℕ) (x : Option Name) (old new : Shown) : Type 0 where
-  pub changes : Changes (change.Take r x) (with_register g r x) x old new
+  pub changes : Changes (change.Take r x) (with_register g r x) x None old new
   pub tally_is : new.tally ≡ woken_tally g old.stage x old.tally
 
 -- a command on the graph
 pub record Obeys (g : GraphState) (c : GraphCmd) (old new : Shown) : Type 0 where
-  pub changes : Changes (change.Command c) (step_of g c).0 (wakes g c) old new
+  pub changes : Changes (change.Command c) (step_of g c).0 (wakes g c) (wakes_also g c) old new
   pub tally_is : new.tally ≡ tally_unless (refusal_in (step_of g c).1) g old.stage c old.tally
 
 -- all groups have ended, and no arena is out

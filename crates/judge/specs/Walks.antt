@@ -28,7 +28,7 @@ walks_of (phase.Collecting k) = Some (walks_in k)
 -- what is black of the zones that a collection leaves out, while its own are being prepared
 abbrev pub left_out_of : Phase → Option (BTreeSet Name)
 left_out_of phase.Idle = None
-left_out_of (phase.Preparing p) = Some p.black.names
+left_out_of (phase.Preparing p) = Some p.black
 left_out_of (phase.Collecting k) = None
 
 abbrev pub IsLeftBlack : Option (BTreeSet Name) → Name → Type 0
@@ -38,7 +38,7 @@ IsLeftBlack (Some names) x = IsTrue (sorted.contains order_of names x)
 -- what is black by what a collection has found so far, beside what is black where none runs
 abbrev pub IsBlackBy : Phase → WalkState → Name → Type 0
 IsBlackBy phase.Idle black x = Contains black.names x
-IsBlackBy (phase.Preparing p) black x = IsLeftBlack (Some p.black.names) x
+IsBlackBy (phase.Preparing p) black x = IsLeftBlack (Some p.black) x
 IsBlackBy (phase.Collecting k) black x = Contains k.black.names x
 
 -- a name is of these zones, or is black

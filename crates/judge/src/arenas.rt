@@ -1,12 +1,11 @@
 // Arenas: whose they are, which of their slots are taken, and which are out for sweeping.
-ghost use Rattle.std.specs.Prelude.{◌≡◌, ℕ, [], ◌∷◌, ◌++◌, ◌+◌, ◌<◌, ◌≤◌, List, IfNone, IfOk, IfSome, IsTrue, OnOk};
-ghost use Rattle.std.specs.Prelude.{Some, drop, length, reverse, slice_get};
+ghost use Rattle.std.specs.Prelude.{◌≡◌, ◌↔◌, ℕ, [], ◌∷◌, ◌++◌, ◌+◌, ◌<◌, ◌≤◌, List, IfNone, IfOk, IfSome, IsTrue};
+ghost use Rattle.std.specs.Prelude.{Contains, OnOk, Some, drop, false, length, reverse, slice_get};
 ghost use Rattle.gz_names.specs.Zones.{zones_in};
 ghost use Rattle.colour_defs.specs.Compaction.{given_up_from};
 ghost use Rattle.colour_defs.specs.Ends.{arenas_from};
 ghost use Rattle.colour_defs.specs.Graph.{is_among};
-ghost use Rattle.judge.specs.Bounds.{arena_count};
-ghost use Rattle.judge.specs.Arenas.{AreSameArenas, Grows, owners_in, owners_of};
+ghost use Rattle.judge.specs.OutArenas.{AreFlagged, flags_of};
 ghost use Rattle.judge.specs.declared.arenas.Arena.{Arena as AnArena};
 
 use gz_names::{NoMemory, Place, ZoneNo, ZoneSet};
@@ -28,11 +27,13 @@ pub struct Arenas {
     lowest: [usize; 64],
     /// Those that are out, the lowest one last.
     out: Vec<u32>,
+    ghost flagged: { AreFlagged arenas.items out.items },
 }
 
 impl Arena {
     fn is_free_for(&self, zone: ZoneNo) -> bool
-        ensures { IsTrue result → self.now.owner ≡ Some zone }
+        ensures owned { IsTrue result → self.now.owner ≡ Some zone }
+        ensures kept { IsTrue result → self.now.is_out ≡ false }
     {
         self.owner == Some(zone) && !self.is_out && self.used != u64::MAX
     }
@@ -48,20 +49,16 @@ impl Arena {
     }
 }
 
-// The lowest arena from a number on that is free for a zone; the number of arenas if there is none.
-fn first_free(arenas: &[Arena], from: usize, zone: ZoneNo) -> usize
-    ensures most { result ≤ length arenas.now }
-    ensures owned { result < length arenas.now → slice_get (owners_of arenas.now) result ≡ Some (Some zone) }
+fn is_listed(numbers: &[u32], number: u32) -> bool
+    ensures { IsTrue result ↔ Contains numbers.now number }
 {
-    for number in from..arenas.len() {
-        if arenas[number].is_free_for(zone) {
-            return number;
-        }
-    }
-    arenas.len()
+    numbers.contains(&number)
 }
 
 impl Arenas {
+    ghost use Rattle.judge.specs.Bounds.{arena_count};
+    ghost use Rattle.judge.specs.Arenas.{AreSameArenas, Grows, owners_in, owners_of};
+
     pub fn new(alloc: Global) -> Self
         ensures out { result.out.items ≡ [] }
         ensures owners { owners_in result ≡ [] }
@@ -73,17 +70,30 @@ impl Arenas {
         }
     }
 
+    // The lowest arena from a number on that is free for a zone; the number of arenas if there is none.
+    fn first_free(&self, from: usize, zone: ZoneNo) -> usize
+        ensures most { result ≤ length self.now.arenas.items }
+        ensures owned { result < length self.now.arenas.items
+            → slice_get (owners_in self.now) result ≡ Some (Some zone) }
+        ensures kept { result < length self.now.arenas.items
+            → slice_get (flags_of self.now.arenas.items) result ≡ Some false }
+    {
+        for number in from..self.arenas.len() {
+            if self.arenas[number].is_free_for(zone) {
+                return number;
+            }
+        }
+        self.arenas.len()
+    }
+
     // The lowest arena of a zone with a free slot; a new one if there is none.
     fn arena_for(&mut self, zone: ZoneNo) -> Result<usize, NoMemory>
         ensures out { self.new.out.items ≡ self.old.out.items }
         ensures grows { OnOk result (Grows (owners_in self.old) (owners_in self.new)) }
         ensures owned { IfOk result (λ n. slice_get (owners_in self.new) n ≡ Some (Some zone)) }
+        ensures kept { IfOk result (λ n. Contains self.old.out.items n → ⊥) }
     {
-        let arena = first_free(
-            self.arenas.as_slice(),
-            self.lowest[zone.index() as usize],
-            zone,
-        );
+        let arena = self.first_free(self.lowest[zone.index() as usize], zone);
         self.lowest[zone.index() as usize] = arena;
         if arena >= self.arenas.len() {
             self.arenas.push(Arena {
@@ -100,6 +110,7 @@ impl Arenas {
         ensures out { OnOk result (self.new.out.items ≡ self.old.out.items) }
         ensures grows { OnOk result (Grows (owners_in self.old) (owners_in self.new)) }
         ensures owned { IfOk result (λ p. slice_get (owners_in self.new) p.0 ≡ Some (Some zone)) }
+        ensures kept { IfOk result (λ p. Contains self.old.out.items p.0 → ⊥) }
     {
         let number = self.arena_for(zone)?;
         let Some(arena) = self.arenas.get_mut(number) else {
@@ -210,8 +221,8 @@ impl Arenas {
         if number > u32::MAX as usize {
             return Err(AllocError);
         }
-        self.arenas[number].is_out = true;
         self.out.push(number as u32)?;
+        self.arenas[number].is_out = true;
         Ok(())
     }
 
@@ -249,9 +260,13 @@ impl Arenas {
         }
     }
 
+    // An arena that is out no more.
     fn come_in(&mut self, number: u32)
         ensures { AreSameArenas self.old self.new }
     {
+        if is_listed(self.out.as_slice(), number) {
+            return;
+        }
         if let Some(arena) = self.arenas.get_mut(number as usize) {
             arena.is_out = false;
         }

@@ -24,6 +24,7 @@ ghost use Rattle.judge.specs.Starts.{AreBlackStarts, AreLiveStarts, IsBegun, IsB
 ghost use Rattle.judge.specs.Starts.{IsInSlot, IsListOf, IsOutside};
 
 use crate::former::is_in;
+use crate::places::lift;
 use crate::preparation::Preparation;
 use crate::tally::with_one;
 use crate::whites::Whites;
@@ -190,12 +191,12 @@ fn outside(
 // Whether a name is black, and of a zone that a preparation leaves out.
 fn is_left_black(graph: &Graph, preparation: &Preparation, name: Name) -> bool
     ensures { IsTrue result ↔ IsBlackOutside graph.now (zones_in preparation.now.zones)
-        (Some preparation.now.black.names) name }
+        (Some preparation.now.black) name }
 {
     if is_in(graph, preparation.zones, name) {
         return false;
     }
-    preparation.black.contains(name)
+    preparation.is_black(name)
 }
 
 // The present cells that are black in zones that a preparation leaves out.
@@ -206,7 +207,7 @@ fn left_blacks(
     places: &BTreeMap<Name, Place>,
 ) -> Result<Vec<Name>, NoMemory>
     ensures { IfOk result (λ names. IsListOf names.items (λ x. HasCell places.now x
-        × IsBlackOutside graph.now (zones_in preparation.now.zones) (Some preparation.now.black.names) x)) }
+        × IsBlackOutside graph.now (zones_in preparation.now.zones) (Some preparation.now.black) x)) }
 {
     let mut names = Vec::new(alloc);
     for (name, _) in places {
@@ -234,7 +235,7 @@ fn black_starts(
     places: &BTreeMap<Name, Place>,
 ) -> Result<Vec<Name>, NoMemory>
     ensures { IfOk result (λ names.
-        AreBlackStarts graph.now (zones_in preparation.now.zones) places.now (Some preparation.now.black.names)
+        AreBlackStarts graph.now (zones_in preparation.now.zones) places.now (Some preparation.now.black)
         names.items) }
 {
     let held = in_registers(alloc, graph)?;
@@ -269,7 +270,7 @@ impl Collection {
         ensures stage { let zones = preparation.now.zones in
             IfOk result (λ it. stage_in it ≡ collecting zones zones None) }
         ensures begun { IfOk result
-            (λ it. IsBegun graph.now (zones_in preparation.now.zones) places.now (Some preparation.now.black.names)
+            (λ it. IsBegun graph.now (zones_in preparation.now.zones) places.now (Some preparation.now.black)
             (walks_in it)) }
     {
         let zones = preparation.zones;
@@ -551,7 +552,7 @@ impl World {
         ensures told { OnOk result (self.new.told ≡ self.old.told) }
         ensures tally { OnOk result (self.new.tally ≡ self.old.tally) }
     {
-        let Some(place) = self.places.remove(&name) else {
+        let Some(place) = lift(&mut self.places, &mut self.lying, name) else {
             return Ok(());
         };
         self.arenas.take_back(place);

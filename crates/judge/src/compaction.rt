@@ -6,7 +6,8 @@ ghost use Rattle.gz_names.specs.Zones.{zones_in};
 ghost use Rattle.colour_defs.specs.Compaction.{FillArenas};
 ghost use Rattle.colour_defs.specs.Graph.{is_in_zones};
 ghost use Rattle.plain_graph.specs.Indexed.{order_of};
-ghost use Rattle.judge.specs.Compaction.{AreLying, Lays, free_in, free_slots, place_order};
+ghost use Rattle.judge.specs.Compaction.{AreLying, Lays, free_in, free_slots};
+ghost use Rattle.judge.specs.Places.{place_order};
 
 use crate::tally::{Tally, count_cells};
 use gz_names::{Name, NoMemory, Place, SLOT_COUNT, ZoneSet};

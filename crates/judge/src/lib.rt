@@ -35,6 +35,7 @@ mod judging;
 mod kinds;
 mod lines;
 mod parse;
+mod places;
 mod preparation;
 mod running;
 mod tally;

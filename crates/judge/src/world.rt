@@ -7,22 +7,22 @@ ghost use Rattle.gz_names.specs.Zones.{HasZone, zones_in};
 ghost use Rattle.gz_names.specs.declared.zone_sets.ZoneSet.{ZoneSet as AZoneSet};
 ghost use Rattle.colour_defs.specs.Ends.{Lists};
 ghost use Rattle.judge.specs.Arenas.{owners_in};
-ghost use Rattle.judge.specs.Cells.{GivesPlace, GivesPlaces, HasCell, made_in, named_in, woken_in, wrapper_in};
-ghost use Rattle.judge.specs.Compaction.{GoTo, Packs, place_order};
+ghost use Rattle.colour_defs.specs.World.{target_cell};
+ghost use Rattle.judge.specs.Cells.{GivesPlace, GivesPlaces, HasCell, also_woken_in, made_in, named_in, woken_in};
+ghost use Rattle.judge.specs.Cells.{wrapper_in};
+ghost use Rattle.judge.specs.LeftOut.{IsEither};
+ghost use Rattle.judge.specs.Places.{AreLaid, place_order};
 ghost use Rattle.judge.specs.Bounds.{arena_count, tally_of, with_arenas};
 ghost use Rattle.judge.specs.Former.{Takes};
 ghost use Rattle.judge.specs.declared.former.Change.TheVariants as change;
-ghost use Rattle.judge.specs.Stages.{Blackens, BlackensOne, IsDue, IsFirst, IsOver, IsSettled, IsStarted, LiesIn};
-ghost use Rattle.judge.specs.Stages.{Wakes, WakesAny, counted_by, idle, limit_in, preparing, put_in, shown, stage_of};
-ghost use Rattle.judge.specs.Stages.{unfinished_in, woken_tally};
 ghost use Rattle.judge.specs.Starts.{LeavesOut};
 ghost use Rattle.judge.specs.Walks.{GoesOnFrom, IsBlackBy, left_out_of, walks_of};
-ghost use Rattle.judge.specs.Replies.{AreMade, IsRefusal};
 
 use crate::arenas::Arenas;
 use crate::collection::Collection;
 use crate::compaction::{Compacted, filled, free_places, lying_in};
 use crate::former::{Change, Former, is_in};
+use crate::places::{lay, shift};
 use crate::preparation::{Preparation, target_of};
 use crate::tally::{Tally, counts_entry, is_wrapper_in, marking_tally, with_one};
 use crate::weak::WeakNames;
@@ -76,6 +76,9 @@ pub struct World {
     pub alloc: Global,
     pub former: Former,
     pub places: BTreeMap<Name, Place>,
+    /// The cells by their places.
+    pub lying: BTreeMap<Place, Name>,
+    ghost laid: { AreLaid places lying },
     pub arenas: Arenas,
     /// The white cells of groups that have ended, until they are swept.
     pub whites: Whites,
@@ -90,6 +93,12 @@ pub struct World {
 }
 
 impl World {
+    ghost use Rattle.judge.specs.Compaction.{GoTo, Packs};
+    ghost use Rattle.judge.specs.Stages.{Blackens, BlackensLeft, BlackensOne, IsDue, IsFirst, IsOver, IsSettled};
+    ghost use Rattle.judge.specs.Stages.{IsStarted, LiesIn, Wakes, WakesAny, counted_by, idle, limit_in, preparing};
+    ghost use Rattle.judge.specs.Stages.{put_in, shown, stage_of, unfinished_in, woken_tally};
+    ghost use Rattle.judge.specs.Replies.{AreMade, IsRefusal};
+
     pub fn new(alloc: Global) -> Self
         ensures { IsFirst (shown result) }
     {
@@ -97,6 +106,7 @@ impl World {
             alloc,
             former: Former::new(alloc),
             places: BTreeMap::new(alloc),
+            lying: BTreeMap::new(alloc),
             arenas: Arenas::new(alloc),
             whites: Whites::new(alloc),
             black: Walk::new(alloc),
@@ -146,7 +156,7 @@ impl World {
     {
         match &self.phase {
             Phase::Idle => self.black.contains(name),
-            Phase::Preparing(preparation) => preparation.black.contains(name),
+            Phase::Preparing(preparation) => preparation.is_black(name),
             Phase::Collecting(collection) => collection.black.contains(name),
         }
     }
@@ -175,6 +185,9 @@ impl World {
         ensures told { OnOk result (self.new.told ≡ self.old.told) }
         ensures black { OnOk result (Blackens graph.now (stage_of self.old.phase) (woken_in command.now reply.now)
             self.old.black self.new.black) }
+        ensures left_out { OnOk result (BlackensLeft graph.now (stage_of self.old.phase)
+            (IsEither (woken_in command.now reply.now) (also_woken_in command.now reply.now))
+            (left_out_of self.old.phase) (left_out_of self.new.phase)) }
         ensures walks { OnOk result (WakesAny (stage_of self.old.phase) (woken_in command.now reply.now)
             (walks_of self.old.phase) (walks_of self.new.phase)) }
         ensures tally { OnOk result (tally_of self.new.tally ≡ counted_by graph.now (stage_of self.old.phase)
@@ -201,6 +214,8 @@ impl World {
         ensures told { OnOk result (self.new.told ≡ self.old.told) }
         ensures black { OnOk result (Blackens graph.now (stage_of self.old.phase) named self.old.black
             self.new.black) }
+        ensures left_out { OnOk result (BlackensLeft graph.now (stage_of self.old.phase) (IsEither named None)
+            (left_out_of self.old.phase) (left_out_of self.new.phase)) }
         ensures walks { OnOk result (WakesAny (stage_of self.old.phase) named (walks_of self.old.phase)
             (walks_of self.new.phase)) }
         ensures tally { OnOk result (tally_of self.new.tally
@@ -223,6 +238,8 @@ impl World {
         ensures told { OnOk result (self.new.told ≡ self.old.told) }
         ensures black { OnOk result (Blackens graph.now (stage_of self.old.phase) name self.old.black
             self.new.black) }
+        ensures left_out { OnOk result (BlackensLeft graph.now (stage_of self.old.phase) (λ s. name ≡ Some s)
+            (left_out_of self.old.phase) (left_out_of self.new.phase)) }
         ensures walks { OnOk result (WakesAny (stage_of self.old.phase) name (walks_of self.old.phase)
             (walks_of self.new.phase)) }
         ensures tally { OnOk result (tally_of self.new.tally ≡ tally_of self.old.tally) }
@@ -241,25 +258,31 @@ impl World {
           tally = tally_of self.new.tally;
         }) }
         ensures takes { OnOk result (Takes (change.Command command.now) self.old.former self.new.former) }
+        ensures left_out { OnOk result (BlackensLeft graph.now (stage_of self.old.phase)
+            (λ s. also_woken_in command.now reply.now ≡ Some s) (left_out_of self.old.phase)
+            (left_out_of self.new.phase)) }
         ensures tally { OnOk result (tally_of self.new.tally ≡ counted_by graph.now (stage_of self.old.phase)
             command.now reply.now (tally_of self.old.tally)) }
     {
         self.former.change(&Change::Command(*command))?;
         self.count(graph, command, reply)?;
-        self.wake_target(graph, read_in(command, reply))
+        self.wake_also(graph, also_woken_in(command, reply))
     }
 
-    // While zones are being prepared, the target of a name that was read is woken.
-    fn wake_target(&mut self, graph: &Graph, read: Option<Name>) -> Result<(), NoMemory>
-        ensures { OnOk result (shown self.new
+    // A name that there may be is woken, if zones are being prepared.
+    fn wake_also(&mut self, graph: &Graph, name: Option<Name>) -> Result<(), NoMemory>
+        ensures same { OnOk result (shown self.new
             ≡ record (shown self.old) { left_out = left_out_of self.new.phase }) }
+        ensures left_out { OnOk result (BlackensLeft graph.now (stage_of self.old.phase) (λ s. name ≡ Some s)
+            (left_out_of self.old.phase) (left_out_of self.new.phase)) }
     {
-        match (&mut self.phase, read) {
-            (Phase::Preparing(preparation), Some(name)) => {
-                preparation.black.blacken(graph, target_of(name))
-            }
-            _ => Ok(()),
-        }
+        let Some(name) = name else {
+            return Ok(());
+        };
+        let Phase::Preparing(preparation) = &mut self.phase else {
+            return Ok(());
+        };
+        preparation.blacken(graph, name)
     }
 
     fn wake(&mut self, graph: &Graph, name: Name) -> Result<(), NoMemory>
@@ -273,6 +296,8 @@ impl World {
         ensures told { OnOk result (self.new.told ≡ self.old.told) }
         ensures black { OnOk result (BlackensOne graph.now (stage_of self.old.phase) name self.old.black
             self.new.black) }
+        ensures left_out { OnOk result (BlackensLeft graph.now (stage_of self.old.phase) (λ s. name ≡ s)
+            (left_out_of self.old.phase) (left_out_of self.new.phase)) }
         ensures walks { OnOk result (Wakes (stage_of self.old.phase) name (walks_of self.old.phase)
             (walks_of self.new.phase)) }
         ensures tally { OnOk result (tally_of self.new.tally ≡ tally_of self.old.tally) }
@@ -291,12 +316,14 @@ impl World {
             }) }
         ensures black { OnOk result (BlackensOne graph.now (stage_of self.old.phase) name self.old.black
             self.new.black) }
+        ensures left_out { OnOk result (BlackensLeft graph.now (stage_of self.old.phase) (λ s. name ≡ s)
+            (left_out_of self.old.phase) (left_out_of self.new.phase)) }
         ensures walks { OnOk result (Wakes (stage_of self.old.phase) name (walks_of self.old.phase)
             (walks_of self.new.phase)) }
     {
         match &mut self.phase {
             Phase::Idle => blacken(&mut self.black, graph, name),
-            Phase::Preparing(preparation) => preparation.black.blacken(graph, name),
+            Phase::Preparing(preparation) => preparation.blacken(graph, name),
             Phase::Collecting(collection) => {
                 if collection.marking.is_empty() {
                     blacken(&mut self.black, graph, name)
@@ -321,7 +348,7 @@ impl World {
             return Ok(());
         };
         let place = self.arenas.give(zone)?;
-        self.places.insert(name, place)?;
+        lay(&mut self.places, &mut self.lying, name, place)?;
         Ok(())
     }
 
@@ -441,7 +468,7 @@ impl World {
             };
             next += 1;
             self.arenas.occupy(place);
-            self.places.insert(*name, place)?;
+            shift(&mut self.places, &mut self.lying, *name, place)?;
         }
         Ok(())
     }
@@ -578,11 +605,23 @@ fn woken_in(command: &GraphCmd, reply: &Reply) -> Option<Name>
     }
 }
 
-// The name that `wrap` and `unwrap` give, which stands for the target that they read.
-fn read_in(command: &GraphCmd, reply: &Reply) -> Option<Name> {
+// The target of a name that there may be.
+fn target_in(name: Option<Name>) -> Option<Name>
+    ensures { result ≡ target_cell name }
+{
+    match name {
+        None => None,
+        Some(name) => Some(target_of(name)),
+    }
+}
+
+// A second name that a command wakes while zones are being prepared, by its reply: what it read through a wrapper.
+fn also_woken_in(command: &GraphCmd, reply: &Reply) -> Option<Name>
+    ensures { result ≡ also_woken_in command.now reply.now }
+{
     match command {
-        GraphCmd::Wrap(_, _, _) => named_in(reply),
-        GraphCmd::Unwrap(_, _) => named_in(reply),
+        GraphCmd::Wrap(_, _, _) => target_in(named_in(reply)),
+        GraphCmd::Unwrap(_, _) => target_in(named_in(reply)),
         _ => None,
     }
 }

@@ -23,6 +23,7 @@ returns-clause-asks c =
               takes = took.takes;
               walks = took.walks;
               blackens = took.black;
+              left_out = took.left_out;
               stage_is = took.stage;
               out_is = took.out;
               whites_is = took.whites;

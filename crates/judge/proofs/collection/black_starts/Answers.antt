@@ -12,6 +12,6 @@ returns c =
     IfOk-weaker c.joined.result _ _ (λ names e. list_joined c.in_ok-held.held.items blacks names.items
     (IsInRegister c.args.graph.now)
     (λ x. HasCell c.args.places.now x × IsBlackOutside c.args.graph.now (zones_in c.args.preparation.now.zones)
-    (Some c.args.preparation.now.black.names) x)
+    (Some c.args.preparation.now.black) x)
     (e ∙ ap (λ ns. c.in_ok-held.held.items ++ ns) c.as_slice.ensures.value) c.in_ok-held.ensures c.in_ok-blacks.ensures)
     c.joined.ensures

@@ -6,6 +6,6 @@ use Rattle.judge.proofs.collection.left_blacks.Given as goal
 
 abbrev pub invariant-loop-name : goal.invariant-loop-name
 invariant-loop-name l =
-    PicksOn (λ x. IsBlackOutside l.graph (zones_in l.preparation.zones) (Some l.preparation.black.names) x)
+    PicksOn (λ x. IsBlackOutside l.graph (zones_in l.preparation.zones) (Some l.preparation.black) x)
     l.places.entries
     l.name-iterator l.names.items

@@ -2,7 +2,8 @@ use Rattle.std.proofs.Common.{◌∙◌, ◌+◌, ◌-◌, ◌++◌, ◌∷◌, 
 use Rattle.std.specs.BTreeMap as tree
 use Rattle.std.proofs.lemmas.List.{append-nil}
 use Rattle.gz_names.specs.declared.numbers.Place.{Place}
-use Rattle.judge.specs.Compaction.{free_slots, place_order}
+use Rattle.judge.specs.Compaction.{free_slots}
+use Rattle.judge.specs.Places.{place_order}
 use Rattle.judge.proofs.Freed.{slots_first, slots_over}
 use Rattle.judge.proofs.compaction.push_free.Goals as goal
 

@@ -1,3 +1,4 @@
+use Rattle.judge.proofs.Flags.{flags_written}
 use Rattle.std.proofs.Common.{◌∙◌, ℕ, List, Option, ap, refl, subst, sym}
 use Rattle.std.specs.Prelude.{slice_get}
 use Rattle.gz_names.specs.declared.numbers.Place.{Place}
@@ -19,3 +20,9 @@ returns-in-Some-new-clause-owned c =
     refl)
     ∙ ap (slice_get (owners_in c.arena_for.new.self)) (ap (λ (p : Place). p.0) c.in-Some-new.ensures.1)
     ∙ c.in_ok-number.ensures.owned
+
+pub invariant_of-self-2 : goal.invariant_of-self-2
+invariant_of-self-2 c = record {
+  flagged = flags_written c.arena_for.new.self.arenas.items c.in_ok-number.number c.in-Some.arena.now _
+      c.arena_for.new.self.out.items c.in-Some.ensures.value refl c.arena_for.new.self.flagged;
+}

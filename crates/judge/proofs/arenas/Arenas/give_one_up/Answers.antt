@@ -1,3 +1,4 @@
+use Rattle.judge.proofs.Flags.{flags_written}
 use Rattle.std.proofs.Common.{◌<◌, inr, length, refl, sym, arith}
 use Rattle.std.proofs.lemmas.List.{length-map}
 use Rattle.judge.specs.Arenas.{owner_of, owners_in}
@@ -14,3 +15,9 @@ returns-in_default-clause-owners c =
     λ less. let t = c.in_default.ensures.variant.1 (omega (arith, less, c.args.self.now.arenas.ok)) in cc t in
     sym (given_elsewhere 0 (owners_in c.args.self.now) c.args.number
     (inr (omega (arith, off, length-map c.args.self.now.arenas.items owner_of))))
+
+pub invariant_of-self : goal.invariant_of-self
+invariant_of-self c = record {
+  flagged = flags_written c.args.self.now.arenas.items c.args.number c.in-Some.arena.now _ c.args.self.now.out.items
+      c.in-Some.ensures.value refl c.args.self.now.flagged;
+}

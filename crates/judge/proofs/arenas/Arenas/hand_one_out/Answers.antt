@@ -1,4 +1,5 @@
-use Rattle.std.proofs.Common.{◌∙◌, ap, sym}
+use Rattle.judge.proofs.Flags.{flags_out}
+use Rattle.std.proofs.Common.{◌∙◌, ap, refl, sym}
 use Rattle.std.proofs.Math.Seq.{map-set_same}
 use Rattle.judge.specs.Arenas.{owner_of}
 use Rattle.judge.proofs.Owners.{goes_out, stays_in}
@@ -29,3 +30,9 @@ pub returns-clause-owners : goal.returns-clause-owners
 returns-clause-owners c =
     map-set_same owner_of c.args.self.now.arenas.items c.args.number _ c.index_mut.result.now
     (ap owner_of c.index_mut.ensures.value)
+
+pub invariant_of-self-2 : goal.invariant_of-self-2
+invariant_of-self-2 c = record {
+  flagged = flags_out c.args.self.now.arenas.items c.args.number _ c.args.self.now.out.items c.push.new.self.items
+      c.requires refl c.in_ok-push.ensures.items c.args.self.now.flagged;
+}

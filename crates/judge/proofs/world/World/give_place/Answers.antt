@@ -1,3 +1,4 @@
+use Rattle.judge.proofs.Flags.{contains_reversed}
 use Rattle.std.proofs.Common.{◌∙◌, refl, sym}
 use Rattle.judge.specs.Stages.{shown}
 use Rattle.judge.proofs.Owners.{lies_made, lies_same}
@@ -25,10 +26,12 @@ returns-clause-lies c =
       of = sym c.in-Some.ensures;
       grows = c.in_ok-place.ensures.grows;
       owned = c.in_ok-place.ensures.owned;
-      updates = c.in_ok-insert.ensures.updates;
+      updates = c.in_ok-lay.ensures.updates;
+      free = c.in_ok-lay.ensures.free c.args.self.now.laid;
+      kept = λ h. c.in_ok-place.ensures.kept (contains_reversed c.args.self.now.arenas.out.items _ h);
     })
 
 pub returns-clause-places : goal.returns-clause-places
 returns-clause-places c =
-    gives_made c.args.graph.now c.args.self.now.places c.insert.new.self c.args.name c.in_ok-place.place
-    (λ h. let t = c.is_present.ensures.1 h in cc (t, c.if-is_present.false)) c.in_ok-insert.ensures.updates
+    gives_made c.args.graph.now c.args.self.now.places c.lay.new.places c.args.name c.in_ok-place.place
+    (λ h. let t = c.is_present.ensures.1 h in cc (t, c.if-is_present.false)) c.in_ok-lay.ensures.updates

@@ -37,7 +37,7 @@ returns c = λ zones e.
       walks = walks_in collection;
       begun = subst (λ (o : Option (BTreeSet Name)). IsBegun c.args.graph.now (zones_in zones) before.places o
           (walks_in collection)) (sym (ap left_out_of c.in-Preparing.is)) (subst (λ (z : ZoneSet). IsBegun
-          c.args.graph.now (zones_in z) before.places (Some c.in-Preparing.preparation.black.names)
+          c.args.graph.now (zones_in z) before.places (Some c.in-Preparing.preparation.black)
           (walks_in collection)) zones_are c.in_ok-collection.ensures.begun);
       keeps = subst (λ (f : Former). Keeps before.former f) (sym (ap (λ (w : World). w.former) c.enter.ensures))
           c.keep.ensures;

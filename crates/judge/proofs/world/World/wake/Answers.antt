@@ -1,9 +1,9 @@
-use Rattle.std.proofs.Common.{◌∙◌, ap, subst, sym}
+use Rattle.std.proofs.Common.{◌≡◌, ◌∙◌, ap, subst, sym}
 use Rattle.std.proofs.lemmas.Result.{on_ok_weaker}
 use Rattle.judge.specs.Cells.{Cells, GivesPlace}
 use Rattle.plain_graph.specs.Reach.{WalkState}
-use Rattle.judge.specs.Stages.{BlackensOne, Shown, Wakes, shown, stage_of}
-use Rattle.judge.specs.Walks.{walks_of}
+use Rattle.judge.specs.Stages.{BlackensLeft, BlackensOne, Shown, Wakes, shown, stage_of}
+use Rattle.judge.specs.Walks.{left_out_of, walks_of}
 use Rattle.judge.specs.declared.world.Phase.{Phase}
 use Rattle.judge.proofs.Owners.{lies_before}
 use Rattle.judge.proofs.world.World.wake.Goals as goal
@@ -46,3 +46,9 @@ pub returns-clause-tally : goal.returns-clause-tally
 returns-clause-tally c =
     on_ok_weaker c.turn_black.result (λ same. ap (λ (s : Shown). s.tally) same
     ∙ ap (λ (s : Shown). s.tally) c.in_ok-give_place.ensures.same) c.turn_black.ensures.same
+
+pub returns-clause-left_out : goal.returns-clause-left_out
+returns-clause-left_out c =
+    on_ok_weaker c.turn_black.result (λ l. subst (λ (p : Phase). BlackensLeft c.args.graph.now (stage_of p)
+    (λ s. c.args.name ≡ s) (left_out_of p) (left_out_of c.turn_black.new.self.phase)) c.give_place.ensures.phase l)
+    c.turn_black.ensures.left_out
