@@ -2,18 +2,20 @@
 """Measures collections by two markers beside collections by one, and prints one table.
 
     ./gczone prove                               # proves and builds the program
-    bench/markers.py [--cells N,..] [--rounds N] [--only HEAP,..] [--program PATH] [--beside PATH]
+    bench/markers.py [--cells N,..] [--heaps N] [--rounds N] [--only HEAP,..] [--program PATH] [--beside PATH]
 
 A heap of --cells cells (1,000,000 and 10,000,000) is made, all of which live, and then `collect` comes --rounds times
-(7), each timed by the wall clock from the line that is sent to its last reply, so with the sweeping of all arenas. The
-programs with one and with two markers take turns, a round each; no helper sweeps. A figure is the quickest round, in
-nanoseconds a cell, with the slowest in brackets. With --beside a second program, an older one say, takes turns with
-them, by one marker and without the option --markers. Two markers need two free processors: say nothing of times but
-what one run on one machine shows. All must write the same; the exit status is 1 if they do not.
+(9), each timed by the wall clock from the line that is sent to its last reply, so with the sweeping of all arenas. The
+programs with one and with two markers take turns, a round each; no helper sweeps. All of this is done --heaps times (3)
+by new processes, since where the memory of a process lies decides about its caches. A figure is the median of all
+rounds, in nanoseconds a cell, with the quickest in brackets. With --beside a second program, an older one say, takes
+turns with them, by one marker and without the option --markers. Two markers need two free processors: say nothing of
+times but what one run on one machine shows. All must write the same; the exit status is 1 if they do not.
 """
 
 import hashlib
 import random
+import statistics
 import subprocess
 import sys
 import tempfile
@@ -115,18 +117,25 @@ def commands_of(program, beside):
     return [*older, *([*run, "--markers", str(markers)] for markers in MARKERS)]
 
 
-def measure(commands, folder, name, cells, rounds):
+def measure(commands, folder, name, cells, given):
     """Prints the row of a heap, and answers whether all programs wrote the same."""
     trace = folder / "trace"
     lines = write_trace(trace, made(name, cells))
-    programs = [Running(words, trace, lines) for words in commands]
-    times = [[running.collect() * 1e9 / cells for running in programs] for _ in range(rounds)]
-    if any(running.finish() for running in programs):
-        raise Fault("a program failed", 1)
+    times, seen = [], set()
+    for _ in range(given.heaps):
+        programs = [Running(words, trace, lines) for words in commands]
+        times += [[running.collect() * 1e9 / cells for running in programs] for _ in range(given.rounds)]
+        if any(running.finish() for running in programs):
+            raise Fault("a program failed", 1)
+        seen |= {running.seen.digest() for running in programs}
     *others, two = zip(*times)
-    figures = (f"{min(each):.1f} ({max(each):.1f})" for each in (*others, two))
-    print_row(name, f"{cells:,}", *figures, *(f"{min(each) / min(two):.2f}" for each in others))
-    return len({running.seen.digest() for running in programs}) == 1
+    figures = (f"{statistics.median(each):.1f} ({min(each):.1f})" for each in (*others, two))
+    print_row(name, f"{cells:,}", *figures, *(ratio_of(each, two) for each in others))
+    return len(seen) == 1
+
+
+def ratio_of(others, two):
+    return f"{statistics.median(others) / statistics.median(two):.2f}"
 
 
 def made(name, cells):
@@ -137,7 +146,8 @@ def made(name, cells):
 def main():
     words = Parser(__doc__)
     words.add_argument("--cells", default="1000000,10000000", metavar="N,..", help="numbers of cells")
-    words.add_argument("--rounds", type=at_least(1), default=7, metavar="N", help="collections of each heap (7)")
+    words.add_argument("--heaps", type=at_least(1), default=3, metavar="N", help="how often each heap is made (3)")
+    words.add_argument("--rounds", type=at_least(1), default=9, metavar="N", help="collections of each heap (9)")
     words.add_argument("--only", help="heaps, with a comma between two")
     words.add_argument("--program", type=Path, help="the gczone to measure")
     words.add_argument("--beside", type=Path, metavar="PATH", help="another gczone, measured by one marker")
@@ -155,7 +165,7 @@ def main():
         cases = [(name, size) for size in sizes for name in names]
         with Progress("heaps", len(cases)) as progress:
             differing = [
-                case for case in progress.over(cases) if not measure(commands, Path(folder), *case, given.rounds)
+                case for case in progress.over(cases) if not measure(commands, Path(folder), *case, given)
             ]
     if differing:
         raise Fault(f"the outputs differ: {', '.join(f'{name} of {size:,}' for name, size in differing)}", 1)
