@@ -3,6 +3,7 @@
 import contextlib
 import io
 import os
+import re
 import runpy
 import shutil
 import subprocess
@@ -167,6 +168,14 @@ class WrongInput(Tools):
 class WrongWords(Tools):
     def test_each_script_is_tested_here(self):
         self.assertEqual(sorted(scripts()), sorted([*WORDS, *SHELL]))
+
+    def test_each_script_is_in_the_help(self):
+        text = subprocess.run([TOP / "gczone", "help"], capture_output=True, text=True, stdin=subprocess.DEVNULL).stdout
+        # ./gczone runs two of them itself, and the page of one folder has its own.
+        for name in sorted(set(scripts()) - {"prove", "test", "spidermonkey/check-logs"}):
+            path = os.path.relpath(TOOLS / name, TOP)
+            self.assertRegex(text, rf"(?<![\w/]){re.escape(path)} ")
+        self.assertLess(max(map(len, text.splitlines())), 121)
 
     def test_a_script_of_the_shell(self):
         def run(*words):
