@@ -1,4 +1,4 @@
-"""Checks what the documents show: commands, links, pictures, counts of lines, and the clauses and edits that they name.
+"""Checks what the documents show: commands, links, pictures, the version, counts of lines, and clauses and edits.
 
 tools/test runs this. The commands run the program that ./gczone finds.
 """
@@ -205,6 +205,13 @@ def check_counts(path):
     return Outcome(wrong)
 
 
+def check_version(path):
+    """Whether each version marked as `1.0.0<!--version-->` is the first one of CHANGELOG.md."""
+    first = re.search(r"(?m)^## (\d+\.\d+\.\d+)", (TOP / "CHANGELOG.md").read_text())[1]
+    marked = re.findall(r"([\d.]+)<!--version-->", path.read_text())
+    return Outcome([f"version {version}, and CHANGELOG.md has {first}" for version in marked if version != first])
+
+
 def check_laws(path):
     """Whether docs/SPECIFICATION.md names each law about the definitions."""
     text = path.read_text()
@@ -231,6 +238,8 @@ def checks(is_own):
         yield Check(f"documents, {name} links", 0.1, partial(check_links, path))
         if "<!--lines:" in path.read_text():
             yield Check(f"documents, {name} counts", 0.1, partial(check_counts, path))
+        if "<!--version-->" in path.read_text():
+            yield Check(f"documents, {name} version", 0.1, partial(check_version, path))
         for number, command, wanted in commands(path.read_text()):
             call = partial(check_command, command, wanted, is_own)
             yield Check(f"documents, {name} line {number}", 1, call)

@@ -38,7 +38,7 @@ class Version(argparse.Action):
     """Prints which gczone this is, and ends the tool."""
 
     def __init__(self, option_strings, dest):
-        super().__init__(option_strings, dest, nargs=0, help="print which gczone this tool belongs to")
+        super().__init__(option_strings, dest, nargs=0, help="print the version of gczone that this tool belongs to")
 
     def __call__(self, parser, *_):
         print(version())
@@ -46,15 +46,9 @@ class Version(argparse.Action):
 
 
 def version():
-    """What `gczone version` says, or where it says nothing what git calls this state of the repository."""
-    for words in ([TOP / "gczone", "version"], ["git", "-C", TOP, "describe", "--always", "--dirty"]):
-        try:
-            ran = subprocess.run(words, stdin=subprocess.DEVNULL, capture_output=True, check=False)
-        except OSError:
-            continue
-        if ran.returncode == 0 and ran.stdout.strip():
-            return ran.stdout.decode().splitlines()[0]
-    return "of no known version"
+    """The first line of `./gczone version`."""
+    ran = subprocess.run([TOP / "gczone", "version"], stdin=subprocess.DEVNULL, capture_output=True, check=True)
+    return ran.stdout.decode().splitlines()[0]
 
 
 def at_least(least):

@@ -340,7 +340,7 @@ function wayInSnapshot(id) {
   const [get, copy] = pictureAt(value("since"));
   const outside = cells.filter(cell => !value("zones").includes(get(`k${cell.comp}`)));
   const left = states => outside.filter(cell => states.includes(get(`s${cell.id}`) || "-"))
-    .map(cell => [cell.id, `left out: ${cells[cell.id].name}`]);
+    .map(cell => [cell.id, `not collected: ${cells[cell.id].name}`]);
   const woken = cells.filter(cell => value(`w${cell.id}`)).map(cell => [cell.id, `woken: ${cell.name}`]);
   const black = [...rootsIn(get, REGISTERS), ...left("b"), ...woken];
   return wayTo(id, black, get, copy.keys())

@@ -54,6 +54,11 @@ def run(*words, **options):
     )
 
 
+def version():
+    """The version that the changelog names."""
+    return run(TOP / "gczone", "version").stdout.splitlines()[0].removeprefix("gczone ")
+
+
 class DeclarationTest(unittest.TestCase):
     def test_all_declarations_agree(self):
         done = run(CHECK)
@@ -84,6 +89,11 @@ class DeclarationTest(unittest.TestCase):
     def test_missing_call_is_found(self):
         call = "GCZ_CALL uint32_t gcz_drop(gcz_t *gcz, uint32_t reg);\n"
         self.assertIn("call gcz_drop: missing in the header", self.refused(call, ""))
+
+    def test_the_package_has_the_version(self):
+        for name in ("Cargo.toml", "Cargo.lock"):
+            text = (BINDINGS / "rust" / name).read_text(encoding="utf-8")
+            self.assertIn(f'\nname = "gczone"\nversion = "{version()}"\n', text)
 
 
 class RangesTest(unittest.TestCase):
@@ -197,6 +207,7 @@ class ProgramTest(LibraryTest):
         self.install(f"DESTDIR={root}")
         lines = (root / "usr/local/lib/pkgconfig/gczone.pc").read_text(encoding="utf-8").splitlines()
         self.assertIn("prefix=/usr/local", lines)
+        self.assertIn(f"Version: {version()}", lines)
         self.assertTrue((root / "usr/local/lib/libgczone.so").resolve().is_file())
 
     def test_what_is_installed_is_found(self):

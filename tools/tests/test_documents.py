@@ -14,7 +14,8 @@ import documents  # noqa: E402 (the folders are no packages)
 class DocumentsTest(unittest.TestCase):
     def faults(self, check, page, old="", new=""):
         """What a check finds in a page in which one text, which stands there, is replaced."""
-        text = (TOP / "docs" / page).read_text()
+        path = TOP / page if (TOP / page).exists() else TOP / "docs" / page
+        text = path.read_text()
         self.assertIn(old, text)
         with tempfile.TemporaryDirectory() as folder:
             path = Path(folder) / page
@@ -79,6 +80,13 @@ class DocumentsTest(unittest.TestCase):
         found = self.faults(check, "PROOFS.md", mark, f" 9{mark}")
         self.assertEqual(len(found), 1)
         self.assertRegex(found[0], r"^9 lines of crates/colour_defs/specs/\*.antt, and there are [0-9,]+$")
+
+    def test_the_version(self):
+        check = documents.check_version
+        self.assertEqual(self.faults(check, "README.md"), [])
+        found = self.faults(check, "README.md", "<!--version-->", ".1<!--version-->")
+        self.assertEqual(len(found), 1)
+        self.assertRegex(found[0], r"^version ([\d.]+)\.1, and CHANGELOG\.md has \1$")
 
 
 if __name__ == "__main__":

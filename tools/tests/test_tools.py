@@ -3,6 +3,7 @@
 import contextlib
 import io
 import os
+import re
 import runpy
 import shutil
 import subprocess
@@ -168,6 +169,14 @@ class WrongWords(Tools):
     def test_each_script_is_tested_here(self):
         self.assertEqual(sorted(scripts()), sorted([*WORDS, *SHELL]))
 
+    def test_each_script_is_in_the_help(self):
+        text = subprocess.run([TOP / "gczone", "help"], capture_output=True, text=True, stdin=subprocess.DEVNULL).stdout
+        # ./gczone runs two of them itself, and the page of one folder has its own.
+        for name in sorted(set(scripts()) - {"prove", "test", "spidermonkey/check-logs"}):
+            path = os.path.relpath(TOOLS / name, TOP)
+            self.assertRegex(text, rf"(?<![\w/]){re.escape(path)} ")
+        self.assertLess(max(map(len, text.splitlines())), 121)
+
     def test_a_script_of_the_shell(self):
         def run(*words):
             done = run_process(TOOLS, *words, command=(), stdout=subprocess.PIPE)
@@ -181,9 +190,9 @@ class WrongWords(Tools):
             self.assertEqual(run("find-program", *words), wanted)
 
     def test_help_and_version(self):
-        describe = subprocess.run(["git", "describe", "--always", "--dirty"], cwd=TOP, capture_output=True, text=True)
         said = subprocess.run([TOP / "gczone", "version"], capture_output=True, text=True, stdin=subprocess.DEVNULL)
-        version = said.stdout.splitlines()[0] if said.returncode == 0 else describe.stdout.strip()
+        version = said.stdout.splitlines()[0]
+        self.assertRegex(version, r"^gczone \d+[.]\d+[.]\d+$")
         for name in WORDS:
             with self.subTest(tool=name), mock.patch.object(command_line, "version", lambda: version):
                 self.assertEqual(run_tool(name, "--version"), (0, version + "\n", ""))

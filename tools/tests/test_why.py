@@ -206,7 +206,7 @@ class Why(unittest.TestCase):
     def test_a_cell_that_a_zone_that_was_left_out_keeps(self):
         texts = self.example("zone_left_out", 11, "1")
         self.assertEqual(texts[2], "no root leads to it since line 10 (`drop r2`)")
-        self.check_has(texts, "black in zone 0, which was left out 0:1", "target of 0:1 1")
+        self.check_has(texts, "black in zone 0, which was not collected 0:1", "target of 0:1 1")
         self.check_has(texts, "line 13 (`collect 1`) frees it: group 1 ended")
 
     def test_a_cell_that_was_freed(self):
