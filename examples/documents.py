@@ -183,16 +183,27 @@ def check_session(path):
     return Outcome(wrong)
 
 
-def check_edits(path):
-    """Whether docs/PROOFS.md names each must-fail edit that is there, once, and no other."""
-    section = path.read_text().partition("\n## Wrong bodies")[2].partition("\n## ")[0]
+def named_edits(section):
+    """The edits that a section of docs/PROOFS.md names, in its table and in its list by crates."""
     named = re.findall(r"`(\w+/\w+)`", section)
     for crate, rest in re.findall(r"(?m)^- (\w+): (.*(?:\n  .*)*)", section):
         named += [f"{crate}/{edit}" for edit in re.findall(r"`(\w+)`", rest)]
-    there = {f"{edit.parts[-3]}/{edit.stem}" for edit in TOP.glob("crates/*/must-fail/*.edit")}
-    wrong = [f"no edit {name}" for name in named if name not in there]
-    wrong += [f"named twice: {name}" for name in sorted(set(named)) if named.count(name) > 1]
-    return Outcome(wrong + [f"not named: {name}" for name in sorted(there.difference(named))])
+    return named
+
+
+def check_edits(path):
+    """Whether docs/PROOFS.md names each edit that is there, once, and no other: those that the gate tries, and below
+    "Tried by hand" those of examples/wrong_bodies."""
+    section = path.read_text().partition("\n## Wrong bodies")[2].partition("\n## ")[0]
+    gate, _, by_hand = section.partition("\n### Tried by hand")
+    in_gate = {f"{edit.parts[-3]}/{edit.stem}" for edit in TOP.glob("crates/*/must-fail/*.edit")}
+    others = {f"{edit.parent.name}/{edit.stem}" for edit in TOP.glob("examples/wrong_bodies/*/*.edit")}
+    wrong = []
+    for named, there in ((named_edits(gate), in_gate), (named_edits(by_hand), others)):
+        wrong += [f"no edit {name}" for name in named if name not in there]
+        wrong += [f"named twice: {name}" for name in sorted(set(named)) if named.count(name) > 1]
+        wrong += [f"not named: {name}" for name in sorted(there.difference(named))]
+    return Outcome(wrong)
 
 
 def check_counts(path):

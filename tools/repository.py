@@ -370,15 +370,17 @@ def types(name):
 
 @functools.cache
 def edits():
-    """Each must-fail edit: its file, the file that it changes, and its pairs of a line, an old text and a new one."""
+    """Each edit that the prover must refuse: its file, the file that it changes, and its pairs of a line, an old text
+    and a new one. The gate tries those of a crate's must-fail/, tools/wrong-bodies those of examples/wrong_bodies."""
     found = []
     for name in files():
-        if re.fullmatch(r"crates/\w+/must-fail/[^/]+\.edit", name):
+        held = re.fullmatch(r"(?:crates/(\w+)/must-fail|examples/wrong_bodies/(\w+))/[^/]+\.edit", name)
+        if held:
             target, pairs = "", []
             for number, line in enumerate(lines_of(name), 1):
                 key, _, text = line.partition(": ")
                 if key == "file":
-                    target = f"crates/{crate_of(name)}/{text}"
+                    target = f"crates/{held[1] or held[2]}/{text}"
                 elif key == "old":
                     pairs.append([number, text, ""])
                 elif key == "new" and pairs:

@@ -48,6 +48,12 @@ class DocumentsTest(unittest.TestCase):
         self.assertEqual(found, ["no edit sweep_groups/new_groups_stay", "not named: sweep_groups/old_groups_stay"])
         found = self.faults(check, "PROOFS.md", "`old_groups_stay`", "`clear_leaves_groups`, `old_groups_stay`")
         self.assertEqual(found, ["named twice: sweep_groups/clear_leaves_groups"])
+        # Those that the gate leaves out stand apart.
+        other = "slice_driver/hands_out_an_empty_list"
+        found = self.faults(check, "PROOFS.md", f"`{other}`", "`zones/old_states_stay`")
+        self.assertEqual(found, ["no edit zones/old_states_stay", f"not named: {other}"])
+        found = self.faults(check, "PROOFS.md", "`zone_edges/component_split`", f"`{other}`")
+        self.assertEqual(found, [f"no edit {other}", "not named: zone_edges/component_split"])
 
     def test_a_row_of_too_many_words(self):
         check = documents.check_rows

@@ -213,6 +213,14 @@ class AfterEdit(Habits):
         self.assertIn("once.edit:2: rewrite it: its text stands 0 times\n", output)
         self.assertIn("docs/PAGE.md:3: double, crates/low/src/lib.rt\n", output)
 
+    def test_wrong_bodies_that_the_gate_leaves_out(self):
+        self.write("examples/wrong_bodies/low/half.edit", EDIT)
+        self.commit()
+        self.change("crates/low/src/lib.rt", "    number + number\n", "    number + number + 0\n")
+        _, output, _ = self.run_tool("after-edit")
+        self.assertIn("examples/wrong_bodies/low/half.edit:2: try it again\n", output)
+        self.assertIn("  rt must-fail low\n  tools/wrong-bodies low/half\n", output)
+
     def test_proofs_mean_their_crate(self):
         self.change("crates/low/proofs/Laws.antt", "never_cited n = refl", "never_cited n = sym refl")
         _, output, _ = self.run_tool("after-edit")
@@ -333,10 +341,12 @@ class Lint(Habits):
 
     def test_edits(self):
         text = "file: src/lib.rt\nold: no such text\nnew: other\n"
-        self.expect("edit-text", "crates/low/must-fail/more.edit", text,
-                    ":2: edit-text: stands 0 times in crates/low/src/lib.rt: no such text")
-        for count in range(6):
+        for name in ("crates/low/must-fail/more.edit", "examples/wrong_bodies/low/more.edit"):
+            self.expect("edit-text", name, text, ":2: edit-text: stands 0 times in crates/low/src/lib.rt: no such text")
+            (self.top / name).unlink()
+        for count in range(7):
             self.write(f"crates/low/must-fail/{count}.edit", EDIT)
+            self.write(f"examples/wrong_bodies/low/{count}.edit", EDIT)
         self.assertEqual(len(self.findings("edit-count")), 2)
 
     def test_documents(self):

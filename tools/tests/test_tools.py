@@ -50,6 +50,7 @@ RUNNERS = [
 WORDS = {
     **dict(RUNNERS), "heap-log": [HEAP_LOG], "prompt": [FIRST], "versus": ["1", "1"], "check-faults": [],
     "after-edit": [], "uses": ["replay"], "lint": [], "test": [], "prove": [], "build-unproved": [],
+    "wrong-bodies": [],
     "check-bindings": [], "spidermonkey/check-logs": [], "../bench/speed.py": [], "../bench/helpers.py": [],
     "../bench/markers.py": [], "../bench/dumps.py": [], "../bench/engines.py": [], "../bench/calls.py": [],
     "../bench/latency.py": [], "../bench/memory.py": [], "../bench/compaction.py": [], "../bench/unchecked.py": [],
