@@ -1,5 +1,6 @@
 // Rows of the table of commands: those of the words that most lines begin with. The five most frequent ones come first.
-// Rows are inlined where the first bytes of a line are told apart.
+// Three of these are inlined where the first bytes of a line are told apart; with all five that function would be too
+// large to be inlined itself.
 ghost use Rattle.std.specs.Prelude.{◌≡◌, ℕ, List, Some, IfSome};
 ghost use Rattle.gz_names.specs.declared.commands.Cmd.{Cmd};
 ghost use Rattle.trace_lang.specs.declared.words.Word.{Word};
@@ -26,7 +27,6 @@ pub struct NewRow;
 impl Row for NewRow {
     ghost first = { word.New };
 
-    #[inline(always)]
     fn read(rest: &[u8]) -> Option<Cmd> {
         let (r, c, FieldCount(n)) = three(rest)?;
         Some(Cmd::Graph(GraphCmd::New(r, c, n)))
