@@ -39,3 +39,9 @@ pub mod Freed
 pub mod Determined
 pub mod Packing
 pub mod Watching
+pub mod LiveCommands
+pub mod LiveEnds
+pub mod LiveReports
+pub mod LiveRuns
+pub mod LeadsOn
+pub mod StillClosed

@@ -1,3 +1,4 @@
+pub mod Live
 pub mod Running
 pub mod Lines
 pub mod Former
