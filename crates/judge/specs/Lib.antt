@@ -21,3 +21,6 @@ pub mod Dumps
 pub mod Compaction
 pub mod Replies
 pub mod Verdicts
+pub mod Represents
+pub mod Transcripts
+pub mod Positions
