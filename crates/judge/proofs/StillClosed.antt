@@ -1,5 +1,5 @@
--- What was black before a command is closed in the graph after it, so the clauses on what turns black hold of each valid
--- world for which the judge's stands.
+-- What was black before a command is closed in the graph after it, so the clauses on what turns black hold of each
+-- valid world for which the judge's stands.
 use Rattle.std.proofs.Common.{◌≡◌, ◌⊎◌, ◌↔◌, ◌≤◌, ◌++◌, ℕ, inl, inr, List, [], ◌∷◌, Option, Some, Contains, length}
 use Rattle.std.proofs.Common.{drop, subst, take}
 use Rattle.std.proofs.lemmas.List.Elements.{Contains-append_cases, Contains-append_left, Contains-append_right}
