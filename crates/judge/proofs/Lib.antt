@@ -45,3 +45,7 @@ pub mod LiveReports
 pub mod LiveRuns
 pub mod LeadsOn
 pub mod StillClosed
+pub mod Standing
+pub mod Settling
+pub mod Placing
+pub mod Waking
