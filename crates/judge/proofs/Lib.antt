@@ -49,3 +49,9 @@ pub mod Standing
 pub mod Settling
 pub mod Placing
 pub mod Waking
+pub mod Blackening
+pub mod Changing
+pub mod Changed
+pub mod Sizes
+pub mod Commanded
+pub mod Derefs
