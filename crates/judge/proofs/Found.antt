@@ -50,7 +50,7 @@ pub black_is : (g : GraphState) (before after : Walks) → CatchesUp g before af
 black_is g before after caught b x =
     found_is g before.woken before.black after.black b.starts b.follows (caught.black b.starts b.follows) x
 
-live_is : (g : GraphState) (before after : Walks) → CatchesUp g before after → IsWalked g before.live → (x : Name)
+pub live_is : (g : GraphState) (before after : Walks) → CatchesUp g before after → IsWalked g before.live → (x : Name)
     → Contains after.live.names x ↔ IsFoundLive g before x
 live_is g before after caught l x =
     found_is g before.woken before.live after.live l.starts l.follows (caught.live l.starts l.follows) x

@@ -55,3 +55,9 @@ pub mod Changed
 pub mod Sizes
 pub mod Commanded
 pub mod Derefs
+pub mod Sweeping
+pub mod Finishing
+pub mod Beginning
+pub mod Starting
+pub mod Grouping
+pub mod Spending

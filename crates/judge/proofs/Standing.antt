@@ -9,7 +9,7 @@ use Rattle.judge.specs.Cells.{HasCell}
 use Rattle.judge.specs.Compaction.{Lies}
 use Rattle.judge.specs.Dumps.{Rests}
 use Rattle.judge.specs.Groups.{Stands}
-use Rattle.judge.specs.Represents.{IsAtStage, IsCollected, IsPrepared, Represents}
+use Rattle.judge.specs.Represents.{IsAtRest, IsAtStage, IsCollected, IsPrepared, Represents}
 use Rattle.judge.specs.Stages.{HasGroups, IsSettled, Shown, Stage, collecting, idle, preparing, forming_in}
 use Rattle.judge.specs.Walks.{IsFoundBlack, Walks}
 
@@ -46,10 +46,13 @@ module _ {g : GraphState} {s : Shown} {w : World} (stands : Represents g s w) wh
     },
   )
 
+  pub at_rest : s.stage ≡ idle → IsAtRest s w
+  at_rest e = at_stage idle e
+
   -- no collection runs
   pub idle_lies : s.stage ≡ idle → Lies g s w
   idle_lies e = record {
-    idle = (at_stage idle e).idle;
+    idle = (at_rest e).idle;
     graph_is = stands.graph_is;
     owners_are = stands.owners_are;
     places_are = stands.places_are;
