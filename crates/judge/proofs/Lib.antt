@@ -60,4 +60,9 @@ pub mod Finishing
 pub mod Beginning
 pub mod Starting
 pub mod Grouping
+pub mod Numbers
+pub mod Ending
+pub mod Stopping
+pub mod Compacting
+pub mod Reweak
 pub mod Spending
