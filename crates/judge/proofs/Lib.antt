@@ -65,4 +65,6 @@ pub mod Ending
 pub mod Stopping
 pub mod Compacting
 pub mod Reweak
+pub mod OneReply
+pub mod PlainTexts
 pub mod Spending
