@@ -67,4 +67,12 @@ pub mod Compacting
 pub mod Reweak
 pub mod OneReply
 pub mod PlainTexts
+pub mod Lawfulness
+pub mod Idling
+pub mod Asked
+pub mod Begun
+pub mod Slicing
+pub mod OneOrder
+pub mod OneDump
+pub mod Listing
 pub mod Spending
