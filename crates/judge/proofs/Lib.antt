@@ -75,4 +75,10 @@ pub mod Slicing
 pub mod OneOrder
 pub mod OneDump
 pub mod Listing
+pub mod UnitsLeft
+pub mod LineKinds
+pub mod SameGroups
+pub mod Reported
+pub mod Answered
+pub mod Resetting
 pub mod Spending
