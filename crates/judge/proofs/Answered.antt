@@ -77,7 +77,7 @@ module _ (g : GraphState) (old new : Shown) (most : Option ℕ) (collects : Bool
   now = is.now
 
   -- the line that tells watched cells
-  told_next : (x : Name) (xs : List Name) → old.told ≡ x ∷ xs
+  pub told_next : (x : Name) (xs : List Name) → old.told ≡ x ∷ xs
       → (line ≡ codes "told" ++ name_words (x ∷ xs)) × (lines ≡ is.left)
   told_next x xs e =
       let all = is.lines_are ∙ ap (λ t. told_lines t ++ is.left) e in
@@ -112,7 +112,7 @@ module _ (g : GraphState) (old new : Shown) (most : Option ℕ) (collects : Bool
       told_rest y ys = drop 1 (name_words (y ∷ ys))
 
   -- the next line, where no watched cell waits
-  left_next : old.told ≡ [] → line ∷ lines ≡ is.left
+  pub left_next : old.told ≡ [] → line ∷ lines ≡ is.left
   left_next none = is.lines_are ∙ ap (λ t. told_lines t ++ is.left) none
 
   done_step : (more : ℕ) → old.told ≡ [] → (d : DoneNext is.now most collects is.tally is.so_far is.done is.left)
@@ -138,7 +138,7 @@ module _ (g : GraphState) (old new : Shown) (most : Option ℕ) (collects : Bool
         lines_are = tail_is line _ lines d.rest all ∙ ap (λ t. told_lines t ++ d.rest) (sym after.told_is);
       }
 
-  report_lines : old.told ≡ [] → (r : ReportNext is.now most collects is.tally is.so_far is.done is.left)
+  pub report_lines : old.told ≡ [] → (r : ReportNext is.now most collects is.tally is.so_far is.done is.left)
       → line ∷ lines ≡ first_of r.said ∷ (told_lines (told_of r.said) ++ r.rest)
   report_lines none r = left_next none ∙ r.lines_are ∙ ap (λ ls. ls ++ r.rest) (lines_first r.said)
 

@@ -81,4 +81,6 @@ pub mod SameGroups
 pub mod Reported
 pub mod Answered
 pub mod Resetting
+pub mod LastLine
+pub mod Refuting
 pub mod Spending
