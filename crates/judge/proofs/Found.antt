@@ -50,7 +50,7 @@ pub black_is : (g : GraphState) (before after : Walks) → CatchesUp g before af
 black_is g before after caught b x =
     found_is g before.woken before.black after.black b.starts b.follows (caught.black b.starts b.follows) x
 
-live_is : (g : GraphState) (before after : Walks) → CatchesUp g before after → IsWalked g before.live → (x : Name)
+pub live_is : (g : GraphState) (before after : Walks) → CatchesUp g before after → IsWalked g before.live → (x : Name)
     → Contains after.live.names x ↔ IsFoundLive g before x
 live_is g before after caught l x =
     found_is g before.woken before.live after.live l.starts l.follows (caught.live l.starts l.follows) x
@@ -89,7 +89,7 @@ pub colours_of : (g : GraphState) (old new : Cells) (former : GraphState) (befor
 colours_of g old new former before after end known has goes = record {
   grays_are = grays_of g old former before after end known has;
   gone = λ x here white. goes.gone x ((has.whites.has x).1 (here, (white.0, λ c. white.1 ((live x).0 c))));
-  stay = λ x n. goes.stay x (λ c. let h = (has.whites.has x).0 c in n (h.1.0, λ f. h.1.1 ((live x).1 f)));
+  stay = λ x n. goes.stay x (λ c. let h = (has.whites.has x).0 c in n h.0 (h.1.0, λ f. h.1.1 ((live x).1 f)));
 }
   where
     live : (x : Name) → Contains after.live.names x ↔ IsFoundLive former before x

@@ -45,3 +45,10 @@ pub mod LiveReports
 pub mod LiveRuns
 pub mod LeadsOn
 pub mod StillClosed
+pub mod NameSets
+pub mod StandsFor
+pub mod WorldStarts
+pub mod WorldForms
+pub mod WorldSweeps
+pub mod WorldStops
+pub mod WorldEnds

@@ -1,5 +1,5 @@
 -- How far a collection is, by its zones, its groups and the arenas that are out; and what a report makes of it.
-use Rattle.std.specs.Prelude.{◌≡◌, ◌↔◌, ℕ, ◌+◌, List, [], ◌∷◌, ◌++◌, Bool, true, false, reverse, slice_get, Option}
+use Rattle.std.specs.Prelude.{◌≡◌, ◌↔◌, ℕ, ◌+◌, ◌<◌, ◌^◌, List, [], ◌∷◌, ◌++◌, Bool, true, false, reverse, slice_get, Option}
 use Rattle.std.specs.Prelude.{Some, None, Vec, Contains, IsTrue, ◌⊎◌, ⊤, map, replicate}
 use Rattle.std.specs.BTreeMap as tree
 use Rattle.std.specs.BTreeSet.{BTreeSet}
@@ -284,6 +284,7 @@ pub record Ends (old : Stage) (group : ZoneSet) (new : Stage) : Type 0 where
   pub rest : List ZoneSet
   pub was : old ≡ collecting zones marking (Some (group ∷ rest))
   pub after_are : AreWithout marking group after
+  pub small : after.bits < 2 ^ 64
   pub new_is : new ≡ collecting zones after (Some rest)
 
 -- the marking of a collection is not over: it has groups that have not ended, or has none yet
