@@ -22,7 +22,7 @@ use Rattle.judge.specs.declared.collection.GroupEnd.{GroupEnd}
 use Rattle.judge.specs.declared.whites.Whites.{Whites}
 
 -- what is reached from names that are reached
-reached_from : (g : GraphState) (P Q : Name → Type 0) → ((x : Name) → P x → Closure g Q x) → {x : Name} → Closure g P x
+pub reached_from : (g : GraphState) (P Q : Name → Type 0) → ((x : Name) → P x → Closure g Q x) → {x : Name} → Closure g P x
     → Closure g Q x
 reached_from g P Q h (from s) = h _ s
 reached_from g P Q h (along r e) = along (reached_from g P Q h r) e
@@ -30,7 +30,7 @@ reached_from g P Q h (weak at m k) = weak at (reached_from g P Q h m) (reached_f
 reached_from g P Q h (delegate at m t) = delegate at (reached_from g P Q h m) (reached_from g P Q h t)
 
 -- a walk that went on has found what is reached from what it had found and from the names that were added
-found_is : (g : GraphState) (more : List Name) (old new : WalkState) (starts : List Name) → Follows g starts old
+pub found_is : (g : GraphState) (more : List Name) (old new : WalkState) (starts : List Name) → Follows g starts old
     → IsDone g (starts ++ more) new → (x : Name)
     → Contains new.names x ↔ Closure g (λ s. Contains old.names s ⊎ Contains more s) x
 found_is g more old new starts f done x = (

@@ -4,17 +4,17 @@
 use Rattle.std.specs.Prelude.{◌≡◌, ℕ, ◌+◌, ◌<◌, ◌≤◌, ◌^◌, Bool, true, false, List, [], ◌∷◌, ◌++◌, map, length, Option}
 use Rattle.std.specs.Prelude.{Some, None, codes, is_some}
 use Rattle.std.specs.List.{flat_map}
-use Rattle.gz_names.specs.declared.names.Name.{Name}
 use Rattle.gz_names.specs.declared.replies.Reply.TheVariants as reply
 use Rattle.gz_names.specs.declared.replies.Report.{Report}
 use Rattle.gz_names.specs.declared.replies.Report.TheVariants as report
 use Rattle.colour_defs.specs.Graph.{GraphState}
 use Rattle.colour_defs.specs.Lawful.{AreLawfulSweeps, AreLawfulUnits, Finishes, HasTally, IsOver, LastOfReset}
 use Rattle.colour_defs.specs.Lawful.{with_spent, with_spent_preparing}
-use Rattle.colour_defs.specs.Laws.{IsMarking, IsValid}
+use Rattle.colour_defs.specs.Laws.{IsValid}
 use Rattle.colour_defs.specs.Units.{MeetsUnitBound, Tally, sweeps_in}
-use Rattle.colour_defs.specs.World.{Collection, IsIdle, IsPresent, LiveClosure, World}
+use Rattle.colour_defs.specs.World.{IsIdle, World}
 use Rattle.trace_lang.specs.Texts.{reply_text}
+use Rattle.judge.specs.Live.{IsValidLive}
 use Rattle.judge.specs.Represents.{Represents}
 use Rattle.judge.specs.Replies.{Due, nothing, reply as reply_due, dump, units as units_due, resets}
 use Rattle.judge.specs.Sound.{IsSound}
@@ -25,8 +25,7 @@ use Rattle.judge.specs.Transcripts.{IsLawfulFrom, dump_line, lines_of_reports, t
 -- collection has found live is present as long as it marks; and there are as many registers and gray slots as ever
 pub record KeepsLaws (w : World) : Type 0 where
   pub valid : IsValid w
-  pub live_present : (k : Collection) → w.collection ≡ Some k → IsMarking k → (x : Name) → LiveClosure k x
-      → IsPresent w x
+  pub live : IsValidLive w
   pub registers : length w.graph.registers ≡ 16
   pub slots : length w.graph.slots ≡ 64
 
