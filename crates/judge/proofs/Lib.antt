@@ -68,3 +68,5 @@ pub mod Beginning
 pub mod Starting
 pub mod Grouping
 pub mod Spending
+pub mod Accepting
+pub mod Answering
