@@ -70,3 +70,11 @@ pub mod Grouping
 pub mod Spending
 pub mod Accepting
 pub mod Answering
+pub mod OverBoth
+pub mod WeakWorlds
+pub mod PlainReplies
+pub mod IdleWorlds
+pub mod Transcribing
+pub mod ReportWorlds
+pub mod UnitLines
+pub mod LastWorlds

@@ -139,7 +139,7 @@ module _ (s t : Shown) (w : World) (f : IsFor s w) (st : Starts w.graph s t) whe
         ((st.started.begun.black_done.all x).0 c),
   )
 
-  tally_now : first_tally w prepared.preparation ≡ t.tally
+  pub tally_now : first_tally w prepared.preparation ≡ t.tally
   tally_now = sym (st.started.counted w prepared.preparation (record {
     graph_is = refl;
     present = λ x. (cell_of s w f.represents x, present_of s w f.represents x);
