@@ -78,3 +78,9 @@ pub mod Transcribing
 pub mod ReportWorlds
 pub mod UnitLines
 pub mod LastWorlds
+pub mod ResetLines
+pub mod Progress
+pub mod StartAnswers
+pub mod SpelledZones
+pub mod FirstWorld
+pub mod Soundness

@@ -50,7 +50,7 @@ pub record IsMade (s t : Shown) (w : World) (text : List ℕ) : Type 0 where
       → HasCounted t world tally (so_far ++ said ∷ [])
 
 -- the world after a report of which only the graph is the same
-stands_after : (t : Shown) (w v : World) (r : Report) (s : Shown) → StandsIn w.graph s w → IsLawfulReport w r v
+pub stands_after : (t : Shown) (w v : World) (r : Report) (s : Shown) → StandsIn w.graph s w → IsLawfulReport w r v
     → v.graph ≡ w.graph → Represents w.graph t v → IsSound w.graph t → StandsIn w.graph t v
 stands_after t w v r s st h graph rep sound = record {
   represents = rep;
