@@ -34,7 +34,8 @@ pub mod LeftOut
 pub mod LeftStages
 pub mod Lying
 pub mod Laid
-pub mod Flags
+pub mod Slots
+pub mod NewCells
 pub mod Freed
 pub mod Determined
 pub mod Packing

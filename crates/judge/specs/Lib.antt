@@ -7,7 +7,7 @@ pub mod Places
 pub mod Weak
 pub mod Cells
 pub mod Whites
-pub mod OutArenas
+pub mod Slots
 pub mod Arenas
 pub mod Starts
 pub mod LeftOut
