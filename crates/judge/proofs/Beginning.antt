@@ -1,5 +1,5 @@
 -- A collection begins, and its zones are prepared: the judge stands for the world after it.
-use Rattle.std.proofs.Common.{◌≡◌, ◌↔◌, ◌∙◌, ℕ, ◌<◌, ◌^◌, List, [], Option, Some, None, Contains, count_by, refl, sym}
+use Rattle.std.proofs.Common.{◌≡◌, ◌↔◌, ◌∙◌, ℕ, ◌<◌, ◌^◌, List, Option, None, count_by, refl, sym}
 use Rattle.std.proofs.Common.{ap, subst}
 use Rattle.std.specs.BTreeMap as tree
 use Rattle.std.specs.FinMap as finite
@@ -12,7 +12,7 @@ use Rattle.colour_defs.specs.Lawful.{Prepares}
 use Rattle.colour_defs.specs.World.{Has, World, first_preparation}
 use Rattle.plain_graph.specs.Indexed.{order_of}
 use Rattle.judge.specs.Bounds.{arena_count, with_arenas}
-use Rattle.judge.specs.Represents.{IsAtRest, IsBlackIn, IsPrepared, Represents}
+use Rattle.judge.specs.Represents.{IsAtRest, IsPrepared, Represents}
 use Rattle.judge.specs.Stages.{Shown, idle, preparing}
 use Rattle.judge.specs.Starts.{LeavesOut}
 use Rattle.judge.specs.Walks.{IsLeftBlack}
@@ -41,9 +41,11 @@ module _ (g : GraphState) (zones : ZoneSet) (old new : Shown) (w v : World) (sta
         λ n. subst (λ a. IsInZones a (zones_in zones) x → ⊥) (sym stands.graph_is) n,
       ) in (
         λ b. let h = (lawful.black_are x).0 b in
-            (leaves x).1 ((present_is stands x).0 ((valid.settled
-            (settled_world stands valid (subst Rattle.judge.specs.Stages.IsSettled (sym idle_is) refl))).present x h.0),
-            (out.0 h.1, (was.names_are x).0 h.0)),
+            (leaves x).1 (
+              (present_is stands x).0 ((valid.settled
+                  (settled_world stands valid (subst Rattle.judge.specs.Stages.IsSettled (sym idle_is) refl))).present x h.0),
+              (out.0 h.1, (was.names_are x).0 h.0),
+            ),
         λ l. let h = (leaves x).0 l in (lawful.black_are x).1 ((was.names_are x).1 h.1.1, out.1 h.1.0),
       )
 

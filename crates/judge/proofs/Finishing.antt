@@ -1,17 +1,11 @@
 -- A collection is over: the judge stands for the world after it.
-use Rattle.std.proofs.Common.{◌≡◌, ◌↔◌, ◌∙◌, List, [], Option, Some, None, Contains, refl, sym, ap, subst}
-use Rattle.std.specs.BTreeMap as tree
-use Rattle.std.specs.FinMap as finite
-use Rattle.gz_names.specs.declared.zone_sets.ZoneSet.{ZoneSet}
-use Rattle.gz_names.specs.declared.names.Name.{Name}
+use Rattle.std.proofs.Common.{◌∙◌, [], Some, None, refl, sym, ap, subst}
 use Rattle.colour_defs.specs.Graph.{GraphState}
 use Rattle.colour_defs.specs.Laws.{IsValid}
 use Rattle.colour_defs.specs.Lawful.{Finishes as FinishesIn}
-use Rattle.colour_defs.specs.World.{Has, IsSettled as HasSettled, World, marking_of}
-use Rattle.plain_graph.specs.Indexed.{order_of}
-use Rattle.judge.specs.Represents.{AreWaiting, IsAtRest, IsBlackIn, IsCollected, Represents}
-use Rattle.judge.specs.Stages.{Finishes, HasGroups, IsSettled, Shown, collecting, idle}
-use Rattle.judge.specs.Weak.{IsWatched}
+use Rattle.colour_defs.specs.World.{World, marking_of}
+use Rattle.judge.specs.Represents.{IsAtRest, IsCollected, Represents}
+use Rattle.judge.specs.Stages.{Finishes, HasGroups, IsSettled, Shown, idle}
 use Rattle.judge.proofs.Settling.{none_mark, settled_stage}
 use Rattle.judge.proofs.Standing.{collected_at}
 

@@ -89,7 +89,8 @@ pub colours_of : (g : GraphState) (old new : Cells) (former : GraphState) (befor
 colours_of g old new former before after end known has goes = record {
   grays_are = grays_of g old former before after end known has;
   gone = λ x here white. goes.gone x ((has.whites.has x).1 (here, (white.0, λ c. white.1 ((live x).0 c))));
-  stay = λ x n. goes.stay x (λ c. let h = (has.whites.has x).0 c in n h.0 (h.1.0, λ f. h.1.1 ((live x).1 f)));
+  stay = λ x n. goes.stay x (λ c. let h = (has.whites.has x).0 c in
+      n (h.0, (h.1.0, λ f. h.1.1 ((live x).1 f))));
 }
   where
     live : (x : Name) → Contains after.live.names x ↔ IsFoundLive former before x

@@ -1,5 +1,5 @@
 -- The groups are formed: the judge stands for the world after it.
-use Rattle.std.proofs.Common.{◌≡◌, ◌↔◌, ◌∙◌, ◌⊎◌, inl, inr, List, [], ◌∷◌, ◌++◌, map, Option, Some, None, Contains, refl}
+use Rattle.std.proofs.Common.{◌≡◌, ◌↔◌, ◌∙◌, inl, inr, List, [], ◌++◌, map, Some, None, Contains}
 use Rattle.std.proofs.Common.{ℕ, sym, ap, subst}
 use Rattle.std.specs.BTreeMap as tree
 use Rattle.std.specs.FinMap as finite
@@ -14,7 +14,7 @@ use Rattle.colour_defs.proofs.Lists.{nothing_in_none}
 use Rattle.plain_graph.specs.Indexed.{order_of}
 use Rattle.plain_graph.specs.Reach.{IsDone, WalkState}
 use Rattle.judge.specs.Positions.{StandsIn}
-use Rattle.judge.specs.Represents.{AreWaiting, HasFound, IsCollected, Represents}
+use Rattle.judge.specs.Represents.{AreWaiting, IsCollected, Represents}
 use Rattle.judge.specs.Stages.{Forms, HasGroups, Shown, collecting}
 use Rattle.judge.specs.Walks.{CatchUp, CatchesUp, IsFoundBlack, IsFoundLive, Walks}
 use Rattle.judge.specs.Weak.{IsWatched}
@@ -97,18 +97,21 @@ module _ (g : GraphState) (groups : List ZoneSet) (gs : List (List ℕ)) (old ne
         let f = running.found (subst HasGroups (sym forms.was) tt) in
         let w0 : f.0 ≡ forms.walks = cc (f.1.walks_are, forms.found) in
         let black = black_caught old.former.graph forms.walks up.0 known in
-        let live = live_caught old.former.graph forms.walks up.0 known in (up.0, record {
-          walks_are = up.1;
-          former_is = f.1.former_is;
-          black_are = λ x.
-              let was = subst (λ (u : Walks). BlackClosure k x ↔ IsFoundBlack old.former.graph u x) w0
-              (f.1.black_are x) in
-              (λ c. (black x).1 (was.0 c), λ c. was.1 ((black x).0 c));
-          live_are = λ x.
-              let was = subst (λ (u : Walks). LiveClosure k x ↔ IsFoundLive old.former.graph u x) w0
-              (f.1.live_are x) in
-              (λ c. (live x).1 (was.0 c), λ c. was.1 ((live x).0 c));
-        });
+        let live = live_caught old.former.graph forms.walks up.0 known in (
+          up.0,
+          record {
+            walks_are = up.1;
+            former_is = f.1.former_is;
+            black_are = λ x.
+                let was = subst (λ (u : Walks). BlackClosure k x ↔ IsFoundBlack old.former.graph u x) w0
+                (f.1.black_are x) in
+                (λ c. (black x).1 (was.0 c), λ c. was.1 ((black x).0 c));
+            live_are = λ x.
+                let was = subst (λ (u : Walks). LiveClosure k x ↔ IsFoundLive old.former.graph u x) w0
+                (f.1.live_are x) in
+                (λ c. (live x).1 (was.0 c), λ c. was.1 ((live x).0 c));
+          },
+        );
     first = λ none. absurd (cc none);
   }
 

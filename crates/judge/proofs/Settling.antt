@@ -34,7 +34,7 @@ no_bits zones small e = elim (cases_lt 0 zones.bits) [
 ]
 
 module _ (s : Shown) (w : World) (valid : IsValid w) where
-  settled_in : (t : Stage) → IsAtStage t s w → IsSettled t → HasSettled w
+  pub settled_in : (t : Stage) → IsAtStage t s w → IsSettled t → HasSettled w
   settled_in idle at still =
       record { none_marking = ap marking_of at.idle.none_running; none_preparing = at.idle.none_preparing }
   settled_in (preparing zones) at still =
@@ -51,7 +51,7 @@ module _ (s : Shown) (w : World) (valid : IsValid w) where
       no_bits marking at.small (sym at.marking_are ∙ sym (ap marking_of at.collection_is) ∙ still.none_marking)
 
   -- groups are left exactly while zones are marking
-  marks_in : (t : Stage) → IsAtStage t s w → HasGroups t → IsSettled t → ⊥
+  pub marks_in : (t : Stage) → IsAtStage t s w → HasGroups t → IsSettled t → ⊥
   marks_in idle at has still = has
   marks_in (preparing zones) at has still = has
   marks_in (collecting zones marking None) at has still =

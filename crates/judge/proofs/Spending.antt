@@ -1,6 +1,5 @@
 -- Units are counted as done: the judge stands for the world after it.
-use Rattle.std.proofs.Common.{◌≡◌, ◌∙◌, ℕ, ◌+◌, Option, Some, None, refl, sym, ap, subst}
-use Rattle.gz_names.specs.declared.zone_sets.ZoneSet.{ZoneSet}
+use Rattle.std.proofs.Common.{◌≡◌, ℕ, ◌+◌, sym, ap, subst}
 use Rattle.colour_defs.specs.Graph.{GraphState}
 use Rattle.colour_defs.specs.Lawful.{with_spent, with_spent_preparing}
 use Rattle.colour_defs.specs.World.{World}
@@ -43,12 +42,15 @@ spent_stage k (collecting zones marking groups) s w at = let m = at.collection i
   groups_are = at.groups_are;
   tally_is = ap (with_units k) at.tally_is;
   none_out = at.none_out;
-  found = λ has. let f = at.found has in (f.0, record {
-    walks_are = f.1.walks_are;
-    former_is = f.1.former_is;
-    black_are = f.1.black_are;
-    live_are = f.1.live_are;
-  });
+  found = λ has. let f = at.found has in (
+    f.0,
+    record {
+      walks_are = f.1.walks_are;
+      former_is = f.1.former_is;
+      black_are = f.1.black_are;
+      live_are = f.1.live_are;
+    },
+  );
   first = at.first;
 }
 

@@ -1,5 +1,5 @@
 -- Marking begins: the judge stands for the world after it.
-use Rattle.std.proofs.Common.{◌≡◌, ◌↔◌, ◌∙◌, ◌⊎◌, inl, inr, ℕ, ◌<◌, List, [], ◌∷◌, ◌++◌, Option, Some, None, Contains}
+use Rattle.std.proofs.Common.{◌≡◌, ◌↔◌, ◌∙◌, inl, inr, ℕ, ◌<◌, List, [], Option, Some, None, Contains}
 use Rattle.std.proofs.Common.{length, refl, sym, ap, subst, arith}
 use Rattle.std.specs.Prelude.{slice_index_or}
 use Rattle.std.specs.BTreeMap as tree
@@ -11,7 +11,7 @@ use Rattle.gz_names.specs.Zones.{zones_in}
 use Rattle.gz_names.specs.declared.names.Name.{Name}
 use Rattle.gz_names.specs.declared.zone_sets.ZoneSet.{ZoneSet}
 use Rattle.colour_defs.specs.Closure.{Closure, from}
-use Rattle.colour_defs.specs.Graph.{GraphState, IsInZones, register_cell, slot_cell}
+use Rattle.colour_defs.specs.Graph.{GraphState, IsInZones}
 use Rattle.colour_defs.specs.Lawful.{Begins}
 use Rattle.colour_defs.specs.World.{Collection, Has, IsPresent, Names, Preparation, World, first_tally}
 use Rattle.colour_defs.proofs.Lists.{get_contains, nothing_in_none}
@@ -20,9 +20,9 @@ use Rattle.plain_graph.specs.Reach.{IsDone, WalkState}
 use Rattle.judge.specs.Bounds.{StandsPrepared, marking_tally}
 use Rattle.judge.specs.Positions.{StandsIn}
 use Rattle.judge.specs.Represents.{AreWaiting, HasFirstBlack, HasFound, IsCollected, IsPrepared, Represents}
-use Rattle.judge.specs.Stages.{HasGroups, Shown, Starts, collecting, preparing}
-use Rattle.judge.specs.Starts.{AreBlackStarts, AreLiveStarts, IsInRegister, IsInSlot, IsOutside}
-use Rattle.judge.specs.Walks.{IsFoundBlack, IsFoundLive, IsLeftBlack, Walks}
+use Rattle.judge.specs.Stages.{Shown, Starts, collecting, preparing}
+use Rattle.judge.specs.Starts.{IsInRegister, IsInSlot, IsOutside}
+use Rattle.judge.specs.Walks.{Walks}
 use Rattle.judge.specs.Weak.{IsWatched}
 use Rattle.judge.proofs.Formers.{former_is}
 use Rattle.judge.proofs.Found.{reached_from}

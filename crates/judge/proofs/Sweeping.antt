@@ -1,21 +1,19 @@
 -- An arena is taken in: the judge stands for the world after it.
-use Rattle.std.proofs.Common.{◌≡◌, ◌≢◌, ◌↔◌, ◌∙◌, ◌⊎◌, inl, inr, ℕ, ◌+◌, List, [], ◌∷◌, Option, Some, None, Contains}
+use Rattle.std.proofs.Common.{◌≡◌, ◌↔◌, ◌∙◌, inl, inr, ℕ, ◌+◌, List, [], ◌∷◌, Contains}
 use Rattle.std.proofs.Common.{refl, sym, ap, subst}
 use Rattle.std.proofs.lemmas.Bool.{cases_eq}
 use Rattle.std.specs.BTreeMap as tree
 use Rattle.std.specs.FinMap as finite
 use Rattle.gz_names.specs.declared.names.Name.{Name}
-use Rattle.gz_names.specs.declared.zone_sets.ZoneSet.{ZoneSet}
 use Rattle.colour_defs.specs.Ends.{Lists}
 use Rattle.colour_defs.specs.Graph.{GraphState}
 use Rattle.colour_defs.specs.Lawful.{IsLawfulSweep, with_sweep as with_sweep_in}
-use Rattle.colour_defs.specs.World.{Collection, Has, World}
+use Rattle.colour_defs.specs.World.{Has, World}
 use Rattle.colour_defs.proofs.Lists.{contains_tail, nothing_in_none}
 use Rattle.plain_graph.specs.Indexed.{order_of}
 use Rattle.judge.specs.Bounds.{with_sweep}
-use Rattle.judge.specs.Represents.{AreWaiting, HasFound, IsAtStage, IsBlackIn, Represents}
-use Rattle.judge.specs.Stages.{HasGroups, IsSettled, Shown, Stage, Sweeps, collecting, idle, preparing}
-use Rattle.judge.specs.Walks.{Walks}
+use Rattle.judge.specs.Represents.{IsAtStage, Represents}
+use Rattle.judge.specs.Stages.{Shown, Stage, Sweeps, collecting, idle, preparing}
 use Rattle.judge.specs.Weak.{IsWatched}
 use Rattle.judge.specs.Whites.{whites_in}
 use Rattle.judge.proofs.Found.{lists_as}
@@ -49,12 +47,15 @@ module _ (g : GraphState) (arena at : ℕ) (freed judged : List Name) (old new :
     groups_are = is.groups_are;
     tally_is = ap with_sweep is.tally_is;
     none_out = λ none. absurd (cc (is.none_out none, sweeps.first));
-    found = λ has. let f = is.found has in (f.0, record {
-      walks_are = f.1.walks_are;
-      former_is = f.1.former_is;
-      black_are = f.1.black_are;
-      live_are = f.1.live_are;
-    });
+    found = λ has. let f = is.found has in (
+      f.0,
+      record {
+        walks_are = f.1.walks_are;
+        former_is = f.1.former_is;
+        black_are = f.1.black_are;
+        live_are = f.1.live_are;
+      },
+    );
     first = is.first;
   }
 

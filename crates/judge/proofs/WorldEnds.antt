@@ -138,7 +138,7 @@ module _ (s t : Shown) (w : World) (f : IsFor s w) (group : ZoneSet) (grays : Li
   ]
     where
       not_not : (IsWhite w.graph (zones_in group) s.former.graph e.walks x → ⊥) → ⊥
-      not_not n = let stay = e.colours.stay x (λ c h. n h) in
+      not_not n = let stay = e.colours.stay x (λ h. n h.1) in
           let lost : HasCell t.cells x = ap is_some stay ∙ c in cc (lost, ap is_some gone)
 
   abbrev pub places : finite.FinMap name_cmp (ℕ × ℕ)
@@ -152,7 +152,7 @@ module _ (s t : Shown) (w : World) (f : IsFor s w) (group : ZoneSet) (grays : Li
       go : (o : Option Place) → tree.get order_of t.cells x ≡ o → cond (is_some o) (finite.get w.places x) None ≡ o
       go None at = refl
       go (Some p) at = f.represents.places_are x
-          ∙ sym (e.colours.stay x (λ c h. cc (at, e.colours.gone x c h))) ∙ at
+          ∙ sym (e.colours.stay x (λ h. cc (at, e.colours.gone x h.0 h.1))) ∙ at
 
   abbrev pub white : List (Name × (ℕ × ℕ))
   white = gone_of (λ x. finite.get w.places x) (λ x. tree.get order_of t.cells x) (finite.keys w.places)
@@ -199,7 +199,7 @@ module _ (s t : Shown) (w : World) (f : IsFor s w) (group : ZoneSet) (grays : Li
 
   stays : (x : Name) → IsPresent w x → (IsWhite w.graph (zones_in group) s.former.graph e.walks x → ⊥)
       → IsPresent ended_world x
-  stays x p n = now_here x (ap is_some (e.colours.stay x (λ c h. n h)) ∙ cell_of s w f.represents x p)
+  stays x p n = now_here x (ap is_some (e.colours.stay x (λ h. n h.1)) ∙ cell_of s w f.represents x p)
 
   not_here : (x : Name) → IsPresent w x → IsWhite w.graph (zones_in group) s.former.graph e.walks x
       → IsPresent ended_world x → ⊥
@@ -274,7 +274,7 @@ module _ (s t : Shown) (w : World) (f : IsFor s w) (group : ZoneSet) (grays : Li
       graph_is = refl;
       owner_is = refl;
       gone = λ x h. places_are x ∙ e.colours.gone x (cell_of s w f.represents x h.present) (white_from x h);
-      stay = λ x n. places_are x ∙ e.colours.stay x (λ c h. n (white_to x c h)) ∙ sym (f.represents.places_are x);
+      stay = λ x n. places_are x ∙ e.colours.stay x (λ h. n (white_to x h.0 h.1)) ∙ sym (f.represents.places_are x);
       white_are = white_are;
       out_is = refl;
       preparing_is = refl;

@@ -2,7 +2,7 @@
 -- The judge goes line by line, the definitions command by command: within an answer the invariant has the world that the
 -- units so far lead to, and the units that are left.
 use Rattle.std.specs.Prelude.{◌≡◌, ℕ, ◌+◌, ◌<◌, ◌≤◌, ◌^◌, Bool, true, false, List, [], ◌∷◌, ◌++◌, map, length, Option}
-use Rattle.std.specs.Prelude.{Some, None, codes, is_some}
+use Rattle.std.specs.Prelude.{Some, None, Contains, codes, is_some}
 use Rattle.std.specs.List.{flat_map}
 use Rattle.gz_names.specs.declared.replies.Reply.TheVariants as reply
 use Rattle.gz_names.specs.declared.replies.Report.{Report}
@@ -16,7 +16,7 @@ use Rattle.colour_defs.specs.World.{IsIdle, World}
 use Rattle.trace_lang.specs.Texts.{reply_text}
 use Rattle.judge.specs.Live.{IsValidLive}
 use Rattle.judge.specs.Represents.{Represents}
-use Rattle.judge.specs.Replies.{Due, nothing, reply as reply_due, dump, units as units_due, resets}
+use Rattle.judge.specs.Replies.{Due, IsUnmarked, nothing, reply as reply_due, dump, units as units_due, resets}
 use Rattle.judge.specs.Sound.{IsSound}
 use Rattle.judge.specs.Stages.{Shown, is_prepared}
 use Rattle.judge.specs.Transcripts.{IsLawfulFrom, dump_line, lines_of_reports, told_lines}
@@ -62,50 +62,56 @@ pub record HasCounted (s : Shown) (now : World) (tally : Tally) (so_far : List R
   pub prepared : is_prepared s.stage ≡ true → (so_far ≡ []) × HasTally now tally
   pub begun : is_prepared s.stage ≡ false → s.tally ≡ record tally { sweeps = tally.sweeps + sweeps_in so_far }
 
--- a slice that has had this many reports, but for `told` and `done`, and so many units or more, ends by this last line
--- in this world, after so many units with these reports
-pub record EndsSlice (s : Shown) (now : World) (most : Option ℕ) (reports : ℕ) (more : ℕ) (left : List Report)
-    (after : World) (last : List ℕ) (next : World) : Type 0 where
-  pub tally : Tally
-  pub so_far : List Report
-  pub counted : HasCounted s now tally so_far
-  pub done : ℕ
-  pub enough : reports ≤ done
-  pub small : done + more < 2 ^ 64
-  pub number : IsNumberOf most (done + more) next
-  pub within : MeetsUnitBound (is_some after.preparing) tally (so_far ++ left) (done + more)
-  pub last_is : last ≡ reply_text (reply.Sliced (done + more))
+-- a slice ends by this last line in this world, after k units with these reports
+pub record EndsSlice (most : Option ℕ) (tally : Tally) (reports : List Report) (k : ℕ) (after : World) (last : List ℕ)
+    (next : World) : Type 0 where
+  pub small : k < 2 ^ 64
+  pub number : IsNumberOf most k next
+  pub within : MeetsUnitBound (is_some after.preparing) tally reports k
+  pub last_is : last ≡ reply_text (reply.Sliced k)
   pub next_is : next ≡ record after {
-    preparing = with_spent_preparing (done + more) after.preparing;
-    collection = with_spent (done + more) after.collection;
+    preparing = with_spent_preparing k after.preparing;
+    collection = with_spent k after.collection;
   }
 
 -- `collect` ends once the collection is over
-pub record EndsCollect (after : World) (last : List ℕ) (next : World) : Type 0 where
+pub record EndsCollect (most : Option ℕ) (after : World) (last : List ℕ) (next : World) : Type 0 where
+  pub unlimited : most ≡ None
   pub idle : IsIdle after
   pub last_is : last ≡ codes "collected"
   pub next_is : next ≡ after
 
-abbrev pub EndsUnits : Bool → Shown → World → Option ℕ → ℕ → ℕ → List Report → World → List ℕ → World → Type 0
-EndsUnits true s now most reports more left after last next = EndsCollect after last next
-EndsUnits false s now most reports more left after last next =
-    EndsSlice s now most reports more left after last next
+abbrev pub EndsUnits : Bool → Option ℕ → Tally → List Report → ℕ → World → List ℕ → World → Type 0
+EndsUnits true most tally reports k after last next = EndsCollect most after last next
+EndsUnits false most tally reports k after last next = EndsSlice most tally reports k after last next
 
--- within an answer with units: these lines are left
-pub record IsInUnits (g : GraphState) (s : Shown) (most : Option ℕ) (collects : Bool) (reports : ℕ)
-    (lines : List (List ℕ)) : Type 0 where
-  pub now : World
-  pub stands : StandsIn g s now
+-- an answer with units, of which these reports and so many units are done: these lines are left
+pub record IsLeftOfUnits (now : World) (most : Option ℕ) (collects : Bool) (tally : Tally) (so_far : List Report)
+    (done : ℕ) (lines : List (List ℕ)) : Type 0 where
   pub is_last : Bool
   pub units : List (List Report)
   pub after : World
   pub left : AreLeftUnits is_last now units after
   pub last : List ℕ
   pub next : World
-  pub ends : EndsUnits collects s now most reports (length units) (left_reports is_last units) after last next
+  pub ends : EndsUnits collects most tally (so_far ++ left_reports is_last units) (done + length units) after last next
   pub more : List (List ℕ)
   pub goes_on : IsLawfulFrom next more
-  pub lines_are : lines ≡ told_lines s.told ++ (lines_of_reports (left_reports is_last units) ++ last ∷ more)
+  pub lines_are : lines ≡ lines_of_reports (left_reports is_last units) ++ last ∷ more
+
+-- within an answer with units, that has had this many reports, but for `told` and `done`: these lines are left
+pub record IsInUnits (g : GraphState) (s : Shown) (most : Option ℕ) (collects : Bool) (reports : ℕ)
+    (lines : List (List ℕ)) : Type 0 where
+  pub now : World
+  pub stands : StandsIn g s now
+  pub tally : Tally
+  pub so_far : List Report
+  pub counted : collects ≡ false → HasCounted s now tally so_far
+  pub done : ℕ
+  pub enough : reports ≤ done
+  pub left : List (List ℕ)
+  pub rest : IsLeftOfUnits now most collects tally so_far done left
+  pub lines_are : lines ≡ told_lines s.told ++ left
 
 -- within a reset: these lines are left
 pub record IsInReset (g : GraphState) (s : Shown) (lines : List (List ℕ)) : Type 0 where
@@ -122,10 +128,12 @@ pub record IsInReset (g : GraphState) (s : Shown) (lines : List (List ℕ)) : Ty
   pub goes_on : IsLawfulFrom after more
   pub lines_are : lines ≡ lines_of_reports (sweeps ++ final ∷ []) ++ reply_text reply.ResetDone ∷ more
 
--- these lines of the answer are left, and then those of a lawful transcript
+-- these lines of the answer are left, none of which begins as a line of a trace does, and then those of a lawful
+-- transcript
 pub record IsBefore (g : GraphState) (s : Shown) (due : List (List ℕ)) (lines : List (List ℕ)) : Type 0 where
   pub world : World
   pub stands : StandsBetween g s world
+  pub unmarked : (line : List ℕ) → Contains due line → IsUnmarked line
   pub more : List (List ℕ)
   pub goes_on : IsLawfulFrom world more
   pub lines_are : lines ≡ due ++ more
