@@ -98,5 +98,6 @@ pub mod ResetLines
 pub mod Progress
 pub mod StartAnswers
 pub mod SpelledZones
+pub mod NewPlaces
 pub mod FirstWorld
 pub mod Soundness

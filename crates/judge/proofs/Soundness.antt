@@ -304,7 +304,7 @@ reached places input (asked {n} {rest} {more} {line} {text} {g} {c} {old} {new} 
       has = has_more input r.lines rest more line r.has one ends;
       sound = sound;
       up_to = subst (λ l. UpTo (r.lines ++ l ∷ []) (graph_after g old c) new due) (sym mark)
-          (trace_next places r.lines g old new text c due r.up_to spells asks sound);
+          (trace_next places r.lines g old new text c due r.up_to spells.0 asks sound);
     }
 reached places input (answered {n} {rest} {more} {line} {g} {due} {next} {old} {new} j one ends unmarked a) =
     let r = reached places input j in

@@ -171,6 +171,7 @@ pub record GetsPlace (g : GraphState) (old new : Shown) : Type 0 where
   pub zone : ℕ
   pub place : Place
   pub of : zone_of g name ≡ Some zone
+  pub fresh : HasCell old.cells name → ⊥
   pub updates : tree.Updates order_of old.cells new.cells name (Some place)
   pub lies : (w : defs.World) → IsLaidAs old w → defs.IsPlaceFor w zone place new.owners
 
