@@ -101,3 +101,4 @@ pub mod SpelledZones
 pub mod NewPlaces
 pub mod FirstWorld
 pub mod Soundness
+pub mod SoFar

@@ -11,6 +11,7 @@ use Rattle.colour_defs.specs.Lawful.{Answers, IsRunning, Prepares}
 use Rattle.colour_defs.specs.World.{World, first_world}
 use Rattle.trace_lang.specs.Grammar.{Spells}
 use Rattle.judge.specs.Positions.{KeepsLaws, StandsBetween}
+use Rattle.judge.specs.Running.{HasUnits}
 use Rattle.judge.specs.Replies.{Due, dump, marked, nothing, reply, resets, units}
 use Rattle.judge.specs.Stages.{Shown}
 use Rattle.judge.specs.Transcripts.{Answer, HasSmallNumber, IsLawfulRun, dump_line, lines_of_answer, transcript}
@@ -39,6 +40,7 @@ pub record IsInUnits (before : World) (c : Cmd) (g : GraphState) (s : Shown) (mo
   pub begun : World
   pub of : AreUnitsOf before c most collects begun
   pub running : IsRunning begun
+  pub fits : HasUnits most reports
   pub so_far : HasUnitsSoFar begun g s reports part
 
 abbrev pub Progress : World → Cmd → GraphState → Shown → Due → List (List ℕ) → Type 0

@@ -1,6 +1,6 @@
 -- The judge is sound: what it judges whole is a lawful transcript, line by line.
 use Rattle.std.proofs.Common.{◌≡◌, ◌≢◌, ◌⊎◌, ◌∙◌, ℕ, ◌+◌, inl, inr, Bool, true, false, List, [], ◌∷◌, ◌++◌, Option, Some, None}
-use Rattle.std.proofs.Common.{ap, append_assoc, codes, length, map, refl, replicate, subst, sym}
+use Rattle.std.proofs.Common.{ap, append_assoc, arith, codes, length, map, refl, replicate, subst, sym}
 use Rattle.std.specs.List.{flat_map}
 use Rattle.gz_io.specs.Lines.{EndsLine}
 use Rattle.gz_names.specs.declared.commands.Cmd.{Cmd}
@@ -13,6 +13,7 @@ use Rattle.gz_names.specs.declared.replies.Report.TheVariants as report
 use Rattle.colour_defs.specs.Graph.{GraphState, empty_graph}
 use Rattle.colour_defs.specs.Lawful.{Answers, IsRunning, Slices}
 use Rattle.colour_defs.specs.World.{IsIdle, World, first_world}
+use Rattle.colour_defs.proofs.Lists.{length_push}
 use Rattle.trace_lang.specs.Grammar.{Spells}
 use Rattle.trace_lang.specs.Texts.{reply_text, report_text}
 use Rattle.judge.specs.Lines.{IsOneLine}
@@ -200,6 +201,7 @@ module _ (lines : List (List ℕ)) (g : GraphState) (s t : Shown) (line : List �
         begun = p.begun;
         of = p.of;
         running = p.running;
+        fits = fits;
         so_far = line_next p.begun g s t reports more a.part line sound reported counts p.so_far;
       }))
   units_next most collects reports a sound next (inr (l, is)) =
@@ -282,16 +284,21 @@ trace_next places lines g s t text c due up spells asks sound =
     })
 
 -- what was judged so far
-pub record IsReached (input rest : List ℕ) (g : GraphState) (s : Shown) (due : Due) : Type 0 where
+pub record IsReached (input : List ℕ) (n : ℕ) (rest : List ℕ) (g : GraphState) (s : Shown) (due : Due) : Type 0 where
   pub lines : List (List ℕ)
+  pub number : n ≡ length lines
   pub has : HasLines input lines rest
   pub sound : IsSound g s
   pub up_to : UpTo lines g s due
 
-reached : PlacesCells → (input : List ℕ) {n : ℕ} {rest : List ℕ} {g : GraphState} {s : Shown} {due : Due}
-    → Judged input n rest g s due → IsReached input rest g s due
+one_more : (n : ℕ) (lines : List (List ℕ)) (line : List ℕ) → n ≡ length lines → n + 1 ≡ length (lines ++ line ∷ [])
+one_more n lines line e = let l = length_push lines line in omega (arith, e, l)
+
+pub reached : PlacesCells → (input : List ℕ) {n : ℕ} {rest : List ℕ} {g : GraphState} {s : Shown} {due : Due}
+    → Judged input n rest g s due → IsReached input n rest g s due
 reached places input (none {s} first) = record {
   lines = [];
+  number = refl;
   has = refl;
   sound = sound_first s first;
   up_to = first_whole s first;
@@ -301,6 +308,7 @@ reached places input (asked {n} {rest} {more} {line} {text} {g} {c} {old} {new} 
     let sound = sound_steps g (graph_after g old c) old new nothing due line
     (inl (text, c, refl, mark, spells, refl, asks)) r.sound in record {
       lines = r.lines ++ line ∷ [];
+      number = one_more n r.lines line r.number;
       has = has_more input r.lines rest more line r.has one ends;
       sound = sound;
       up_to = subst (λ l. UpTo (r.lines ++ l ∷ []) (graph_after g old c) new due) (sym mark)
@@ -310,6 +318,7 @@ reached places input (answered {n} {rest} {more} {line} {g} {due} {next} {old} {
     let r = reached places input j in
     let sound = sound_steps g g old new due next line (inr (unmarked, refl, a)) r.sound in record {
       lines = r.lines ++ line ∷ [];
+      number = one_more n r.lines line r.number;
       has = has_more input r.lines rest more line r.has one ends;
       sound = sound;
       up_to = answer_next r.lines g old new line due next r.up_to sound a;

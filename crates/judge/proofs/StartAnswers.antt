@@ -342,6 +342,7 @@ module _ (s t : Shown) (w : World) (b : StandsBetween w.graph s w) where
         begun = begun.0;
         of = collect begun.1;
         running = inr (first_preparation w (zones_in zones), preparing_is);
+        fits = λ n e. omega arith;
         so_far = record {
           units = [];
           tail = [];
@@ -370,6 +371,7 @@ module _ (s t : Shown) (w : World) (b : StandsBetween w.graph s w) where
         begun = w;
         of = slice;
         running = running_of s w b.stands.represents some;
+        fits = λ m e. omega arith;
         so_far = of_same (Some n) same some;
       })
   slice_starts n due (inr (idle_is, is)) same sound =
@@ -384,6 +386,7 @@ module _ (s t : Shown) (w : World) (b : StandsBetween w.graph s w) where
         begun = w;
         of = finish;
         running = running_of s w b.stands.represents some;
+        fits = λ m e. omega arith;
         so_far = of_same None same some;
       })
   finish_starts due (inr (idle_is, is)) same sound =
