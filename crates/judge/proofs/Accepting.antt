@@ -1,37 +1,34 @@
 -- A change of the graph that the judge accepts: there is a world after it by the definitions.
-use Rattle.std.proofs.Common.{◌≡◌, ◌↔◌, ◌∙◌, ◌⊎◌, ◌&&◌, inl, inr, ℕ, Bool, true, false, List, [], ◌∷◌, Option, Some, None}
+use Rattle.std.proofs.Common.{◌≡◌, ◌↔◌, ◌∙◌, ◌⊎◌, ◌&&◌, inl, inr, ℕ, List, [], ◌∷◌, Option, Some, None}
 use Rattle.std.proofs.Common.{Contains, ap, refl, subst, sym}
 use Rattle.std.specs.FinMap as finite
 use Rattle.std.specs.FinSet as set
 use Rattle.gz_names.specs.Order.{name_cmp}
-use Rattle.gz_names.specs.Zones.{zones_in}
 use Rattle.gz_names.specs.declared.names.Name.{Name}
 use Rattle.gz_names.specs.declared.zone_sets.ZoneSet.{ZoneSet}
-use Rattle.colour_defs.specs.Closure.{Closure, ClosureWithin, within_edge, within_key, within_start, within_value}
-use Rattle.colour_defs.specs.Graph.{GraphState, IsInZones, zone_of}
+use Rattle.colour_defs.specs.Closure.{ClosureWithin, within_edge, within_key, within_start, within_value}
+use Rattle.colour_defs.specs.Graph.{GraphState, IsInZones}
 use Rattle.colour_defs.specs.Laws.{HasSomeZone, IsValid, NamesOnlyPresent}
 use Rattle.colour_defs.specs.Units.{Tally}
-use Rattle.colour_defs.specs.World.{Accepts, AcceptsIn, AcceptsPreparing, Collection, Has, HasPlace, IsLeftOut, IsPlaceFor, IsPresent, Names}
+use Rattle.colour_defs.specs.World.{Accepts, AcceptsIn, AcceptsPreparing, Collection, Has, HasPlace, IsPresent, Names}
 use Rattle.colour_defs.specs.World.{IsSettled as HasSettled, Preparation, Wakes, WakesLeftOut, World, is_present, marking_of, with_waking}
 use Rattle.colour_defs.proofs.Carried.{Changes, presence_carries, present_or, within_in}
-use Rattle.colour_defs.proofs.Effects.{Waking}
 use Rattle.colour_defs.proofs.Follows.{Follows}
 use Rattle.colour_defs.proofs.Lists.{both_of, first_of_both, second_of_both}
 use Rattle.colour_defs.proofs.Names.{names_apart}
-use Rattle.colour_defs.proofs.ValidCommands.{Step, changed, place_kept, place_there}
-use Rattle.plain_graph.specs.Reach.{WalkState}
+use Rattle.colour_defs.proofs.ValidCommands.{Step, changed}
 use Rattle.judge.specs.LeftOut.{GrowsLeft, IsClosedLeft, IsEither, IsOutOf}
 use Rattle.judge.specs.Live.{IsFollowed}
 use Rattle.judge.specs.Positions.{StandsIn}
-use Rattle.judge.specs.Represents.{IsAtStage, IsBlackIn, IsPrepared, LiesInPlace, Represents}
+use Rattle.judge.specs.Represents.{IsAtStage, IsPrepared, LiesInPlace}
 use Rattle.judge.specs.Stages as judged
 use Rattle.judge.specs.Stages.{Blackens, BlackensLeft, BlackensOne, IsSettled, Shown, Stage, collecting, idle, preparing}
 use Rattle.judge.specs.Walks.{GoesOnFrom, IsLeftBlack}
 use Rattle.judge.specs.declared.former.Change.{Change}
-use Rattle.judge.proofs.Blackening.{Prepares, left_closed, within_as}
+use Rattle.judge.proofs.Blackening.{left_closed, within_as}
 use Rattle.judge.proofs.LeadsOn.{LeadsOn, black_followed}
 use Rattle.judge.proofs.NameSets.{left_has, names_left, set_has, set_of}
-use Rattle.judge.proofs.Settling.{settled_stage, settled_world}
+use Rattle.judge.proofs.Settling.{settled_stage}
 use Rattle.judge.proofs.Standing.{present_is}
 use Rattle.judge.proofs.StillClosed.{goes_on_black}
 
@@ -41,9 +38,10 @@ present_of w xs = set.retain (set_of xs) (is_present w)
 
 pub present_has : (w : World) (xs : List Name) (x : Name) → Has (present_of w xs) x ↔ (Contains xs x × IsPresent w x)
 present_has w xs x = (
-  λ h. (let both = sym is ∙ h in
-      ((set_has xs x).0 (first_of_both (set.contains (set_of xs) x) (is_present w x) both),
-      second_of_both (set.contains (set_of xs) x) (is_present w x) both)),
+  λ h. (let both = sym is ∙ h in (
+    (set_has xs x).0 (first_of_both (set.contains (set_of xs) x) (is_present w x) both),
+    second_of_both (set.contains (set_of xs) x) (is_present w x) both,
+  )),
   λ h. is ∙ both_of (set.contains (set_of xs) x) (is_present w x) ((set_has xs x).1 h.0) h.1,
 )
   where
@@ -175,59 +173,65 @@ module _ (k : Change) (h : GraphState) (x also : Option Name) (f : Collection �
         (λ n c. (was.names_are n).1 c) was.within (black_followed w h ok (ok.settled rest) a.on) goes in (
           world_with black (with_waking y counted),
           (placed y some).has black (with_waking y counted),
-          (refl, λ n. (
-            λ b. let c = (present_has (world_with w.black None) new.black.names n).0 b in ((names n).0 c.0, c.1),
-            λ r. (present_has (world_with w.black None) new.black.names n).1 ((names n).1 r.0, r.1),
-          )),
+          (
+            refl,
+            λ n. (
+              λ b. let c = (present_has (world_with w.black None) new.black.names n).0 b in ((names n).0 c.0, c.1),
+              λ r. (present_has (world_with w.black None) new.black.names n).1 ((names n).1 r.0, r.1),
+            ),
+          ),
         )
 
   -- while zones are being prepared
   module _ (zones : ZoneSet) (at : IsPrepared old zones w) (grows : GrowsLeft h zones (IsEither x also) old.left_out new.left_out)
     where
-    closed : IsClosedLeft h zones old.left_out
-    closed = left_closed w at.preparation zones (record { first = x; also = also }) h old.left_out (record {
-      ok = ok;
-      ready = ok.preparing at.preparation at.preparing_is;
-      zones_are = at.zones_are;
-      follow = a.follow;
-      on = a.on;
-      black_are = at.black_are;
-    })
+      closed : IsClosedLeft h zones old.left_out
+      closed = left_closed w at.preparation zones (record { first = x; also = also }) h old.left_out (record {
+        ok = ok;
+        ready = ok.preparing at.preparation at.preparing_is;
+        zones_are = at.zones_are;
+        follow = a.follow;
+        on = a.on;
+        black_are = at.black_are;
+      })
 
-    -- what is left out in a world after the change turns black
-    wakes_left : (v : World) (P : Name → Type 0) → v.graph ≡ h → NamesOnlyPresent v
-        → ((n : Name) → IsPresent w n → IsPresent v n) → ((n : Name) → P n → IsPresent v n)
-        → ((n : Name) → P n ↔ IsEither x also n)
-        → ((n : Name) → Has v.black n ↔ (Contains (names_left new.left_out) n × IsPresent v n))
-        → WakesLeftOut w at.preparation P v
-    wakes_left v P graph presence kept there alike black n = (
-      λ b. subst (λ g. ClosureWithin g (λ m. IsPresent v m × (IsInZones g at.preparation.zones m → ⊥))
-          (λ m. Has w.black m ⊎ P m) n) (sym graph)
-          (within_as h (λ m. IsPresent v m × IsOutOf h zones m)
-          (λ m. IsPresent v m × (IsInZones h at.preparation.zones m → ⊥))
-          (λ m. IsLeftBlack old.left_out m ⊎ IsEither x also m) (λ m. Has w.black m ⊎ P m)
-          (λ m l. (l.0, λ i. l.1 (subst (λ zs. IsInZones h zs m) at.zones_are i)))
-          (λ m s. elim s [ inl o ↦ inl ((at.black_are m).1 o) | inr e ↦ inr ((alike m).1 e) ])
-          (within_followed h (IsOutOf h zones) (λ m. IsLeftBlack old.left_out m ⊎ IsEither x also m) (IsPresent v)
-          followed (λ m s i. elim s [
-            | inl o ↦ kept m ((ok.preparing at.preparation at.preparing_is).left_out m ((at.black_are m).1 o)).0
-            | inr e ↦ there m ((alike m).1 e)
-          ]) ((grows closed n).0 ((left_has new.left_out n).1 ((black n).0 b).0))).0),
-      λ r. let out = subst (λ g. ClosureWithin g (λ m. IsPresent v m × (IsInZones g at.preparation.zones m → ⊥))
-          (λ m. Has w.black m ⊎ P m) n) graph r in
-          (black n).1 ((left_has new.left_out n).0 ((grows closed n).1
-          (within_as h (λ m. IsPresent v m × (IsInZones h at.preparation.zones m → ⊥)) (IsOutOf h zones)
-          (λ m. Has w.black m ⊎ P m) (λ m. IsLeftBlack old.left_out m ⊎ IsEither x also m)
-          (λ m l i. l.1 (subst (λ zs. IsInZones h zs m) (sym at.zones_are) i))
-          (λ m s. elim s [ inl o ↦ inl ((at.black_are m).0 o) | inr p ↦ inr ((alike m).0 p) ]) out)), (within_in out).0),
-    )
-      where
-        followed : IsFollowed h (IsPresent v)
-        followed = subst (λ g. IsFollowed g (IsPresent v)) graph (record {
-          edges = presence.edges;
-          values = presence.entries;
-          keys = presence.keys;
-        })
+      -- what is left out in a world after the change turns black
+      wakes_left : (v : World) (P : Name → Type 0) → v.graph ≡ h → NamesOnlyPresent v
+          → ((n : Name) → IsPresent w n → IsPresent v n) → ((n : Name) → P n → IsPresent v n)
+          → ((n : Name) → P n ↔ IsEither x also n)
+          → ((n : Name) → Has v.black n ↔ (Contains (names_left new.left_out) n × IsPresent v n))
+          → WakesLeftOut w at.preparation P v
+      wakes_left v P graph presence kept there alike black n = (
+        λ b. subst (λ g. ClosureWithin g (λ m. IsPresent v m × (IsInZones g at.preparation.zones m → ⊥))
+            (λ m. Has w.black m ⊎ P m) n) (sym graph)
+            (within_as h (λ m. IsPresent v m × IsOutOf h zones m)
+            (λ m. IsPresent v m × (IsInZones h at.preparation.zones m → ⊥))
+            (λ m. IsLeftBlack old.left_out m ⊎ IsEither x also m) (λ m. Has w.black m ⊎ P m)
+            (λ m l. (l.0, λ i. l.1 (subst (λ zs. IsInZones h zs m) at.zones_are i)))
+            (λ m s. elim s [ inl o ↦ inl ((at.black_are m).1 o) | inr e ↦ inr ((alike m).1 e) ])
+            (within_followed h (IsOutOf h zones) (λ m. IsLeftBlack old.left_out m ⊎ IsEither x also m) (IsPresent v)
+            followed (λ m s i. elim s [
+              | inl o ↦ kept m ((ok.preparing at.preparation at.preparing_is).left_out m ((at.black_are m).1 o)).0
+              | inr e ↦ there m ((alike m).1 e)
+            ]) ((grows closed n).0 ((left_has new.left_out n).1 ((black n).0 b).0))).0),
+        λ r. let out = subst (λ g. ClosureWithin g (λ m. IsPresent v m × (IsInZones g at.preparation.zones m → ⊥))
+            (λ m. Has w.black m ⊎ P m) n) graph r in
+            (black n).1 (
+              (left_has new.left_out n).0 ((grows closed n).1
+                  (within_as h (λ m. IsPresent v m × (IsInZones h at.preparation.zones m → ⊥)) (IsOutOf h zones)
+                  (λ m. Has w.black m ⊎ P m) (λ m. IsLeftBlack old.left_out m ⊎ IsEither x also m)
+                  (λ m l i. l.1 (subst (λ zs. IsInZones h zs m) (sym at.zones_are) i))
+                  (λ m s. elim s [ inl o ↦ inl ((at.black_are m).0 o) | inr p ↦ inr ((alike m).0 p) ]) out)),
+              (within_in out).0,
+            ),
+      )
+        where
+          followed : IsFollowed h (IsPresent v)
+          followed = subst (λ g. IsFollowed g (IsPresent v)) graph (record {
+            edges = presence.edges;
+            values = presence.entries;
+            keys = presence.keys;
+          })
 
   -- presence after the change
   presence_of : (v : World) → Changes w (record { first = x; also = also }) v → NamesOnlyPresent v
@@ -270,24 +274,26 @@ module _ (k : Change) (h : GraphState) (x also : Option Name) (f : Collection �
       let has = (placed y n).has black w.collection in
       let ch = a.step.waking (world_with y n black w.collection) y n has in (
         world_with y n (present_of (world_with y n w.black w.collection) (names_left new.left_out)) w.collection,
-        (has,
-        refl,
-        wakes_left zones at (grows_at zones e)
-            (world_with y n (present_of (world_with y n w.black w.collection) (names_left new.left_out)) w.collection)
-            (λ s. (y ≡ s) ⊎ (z ≡ Some s)) refl
-            (presence_of
-            (world_with y n (present_of (world_with y n w.black w.collection) (names_left new.left_out)) w.collection)
-            ch) (kept_of
-            (world_with y n (present_of (world_with y n w.black w.collection) (names_left new.left_out)) w.collection)
-            ch)
-            (λ s q. elim q [
-              | inl same ↦ ch.there s (n ∙ ap Some same)
-              | inr too ↦ ch.kept s (a.also_there s (m ∙ too))
-            ])
-            (λ s. (
-              λ q. elim q [ inl same ↦ inl (n ∙ ap Some same) | inr too ↦ inr (m ∙ too) ],
-              λ q. elim q [ inl b ↦ inl (cc (n, b)) | inr b ↦ inr (sym m ∙ b) ],
-            )) (present_has (world_with y n w.black w.collection) (names_left new.left_out))),
+        (
+          has,
+          refl,
+          wakes_left zones at (grows_at zones e)
+              (world_with y n (present_of (world_with y n w.black w.collection) (names_left new.left_out)) w.collection)
+              (λ s. (y ≡ s) ⊎ (z ≡ Some s)) refl
+              (presence_of
+              (world_with y n (present_of (world_with y n w.black w.collection) (names_left new.left_out)) w.collection)
+              ch) (kept_of
+              (world_with y n (present_of (world_with y n w.black w.collection) (names_left new.left_out)) w.collection)
+              ch)
+              (λ s q. elim q [
+                | inl same ↦ ch.there s (n ∙ ap Some same)
+                | inr too ↦ ch.kept s (a.also_there s (m ∙ too))
+              ])
+              (λ s. (
+                λ q. elim q [ inl same ↦ inl (n ∙ ap Some same) | inr too ↦ inr (m ∙ too) ],
+                λ q. elim q [ inl b ↦ inl (cc (n, b)) | inr b ↦ inr (sym m ∙ b) ],
+              )) (present_has (world_with y n w.black w.collection) (names_left new.left_out)),
+        ),
       )
 
   accepted : (y : Option Name) → x ≡ y → w.preparing ≡ None

@@ -1,5 +1,5 @@
 -- A command on the graph, and a weak slot that is read: there is a world after each, for which the judge stands.
-use Rattle.std.proofs.Common.{◌≡◌, ◌∙◌, ◌⊎◌, ◌<◌, inl, inr, ℕ, Bool, true, false, cond, List, ◌∷◌, [], Option, Some, None, length}
+use Rattle.std.proofs.Common.{◌≡◌, ◌∙◌, ◌⊎◌, ◌<◌, inl, inr, ℕ, Bool, true, false, cond, Option, Some, None, length}
 use Rattle.std.proofs.Common.{ap, arith, get_or, nat_lt, refl, slice_get, subst, sym}
 use Rattle.std.specs.Option.{option_flatten}
 use Rattle.std.proofs.lemmas.Option.{slice_get-get_or}
@@ -13,17 +13,17 @@ use Rattle.gz_names.specs.declared.replies.Refusal.{Refusal}
 use Rattle.gz_names.specs.declared.replies.Reply.{Reply}
 use Rattle.gz_names.specs.declared.replies.Reply.TheVariants as reply
 use Rattle.colour_defs.specs.declared.graph.Object.{Object}
-use Rattle.colour_defs.specs.Graph.{GraphState, comp_of_object, has_wrapper, register_cell, slot_cell, zone_of, zone_of_comp}
+use Rattle.colour_defs.specs.Graph.{GraphState, comp_of_object, has_wrapper, register_cell, zone_of_comp}
 use Rattle.colour_defs.specs.Laws.{HasSomeZone, IsValid}
 use Rattle.colour_defs.specs.Step.{is_in_comp, make_object, named_or_null, new_map, new_object, refusal_in, step_of}
 use Rattle.colour_defs.specs.Step.{take_wrapper, target_of, with_register, wrap_from}
 use Rattle.colour_defs.specs.WeakRefs.{WeakInWorld, weak_cell, with_read}
-use Rattle.colour_defs.specs.World.{AcceptsIn, AcceptsUnless, Collection, CommandInWorld, IsPresent, World, also_woken_by}
+use Rattle.colour_defs.specs.World.{AcceptsIn, AcceptsUnless, CommandInWorld, IsPresent, World, also_woken_by}
 use Rattle.colour_defs.specs.World.{with_counts, woken_by, woken_by_wrap}
 use Rattle.colour_defs.proofs.Effects.{Effect, effect_of, takes, waking_of, woken}
-use Rattle.colour_defs.proofs.Follows.{Follows, follows}
+use Rattle.colour_defs.proofs.Follows.{follows}
 use Rattle.colour_defs.proofs.Lists.{choose, get_push_here}
-use Rattle.colour_defs.proofs.ValidCommands.{changed, read, read_is}
+use Rattle.colour_defs.proofs.ValidCommands.{read, read_is}
 use Rattle.judge.specs.Cells.{unless_refused, wakes}
 use Rattle.judge.specs.Positions.{StandsIn}
 use Rattle.judge.specs.Represents.{LiesInPlace, Represents}
@@ -119,9 +119,11 @@ module _ (c : GraphCmd) (old new : Shown) (w : World) (stands : StandsIn w.graph
         also_there = also_there w ok c;
         step = command_step w c e;
         zoned = zoned w ok c e;
-      }) in
-      (a.0, subst (λ o. AcceptsIn w.preparing w o after (woken_by w.graph c) (also_woken_by w.graph c) a.0)
-      (sym (counted_is w.graph c w.collection)) a.1)
+      }) in (
+        a.0,
+        subst (λ o. AcceptsIn w.preparing w o after (woken_by w.graph c) (also_woken_by w.graph c) a.0)
+            (sym (counted_is w.graph c w.collection)) a.1,
+      )
 
   -- there is a world after the command, for which the judge stands
   pub commanded : (v : World) × CommandInWorld w c (step_of w.graph c).1 v × Represents after new v
@@ -147,9 +149,11 @@ module _ (r q : ℕ) (old new : Shown) (w : World) (stands : StandsIn w.graph ol
         also_there = λ s n. absurd (cc n);
         step = read_step w r q ok;
         zoned = λ y e. inl (ok.presence.weak q y e);
-      }) in
-      (a.0, subst (λ o. AcceptsIn w.preparing w o (with_register w.graph r (weak_cell w q)) (weak_cell w q) None a.0)
-      (sym (read_is w.graph (weak_cell w q) w.collection)) a.1)
+      }) in (
+        a.0,
+        subst (λ o. AcceptsIn w.preparing w o (with_register w.graph r (weak_cell w q)) (weak_cell w q) None a.0)
+            (sym (read_is w.graph (weak_cell w q) w.collection)) a.1,
+      )
 
   pub derefed : (v : World) × WeakInWorld w (weak_command.Deref r q) (named_or_null (weak_cell w q)) v
       × Represents (with_register w.graph r (weak_cell w q)) new v

@@ -1,5 +1,5 @@
 -- Before any line the judge stands for the first world.
-use Rattle.std.proofs.Common.{◌≡◌, ◌↔◌, ◌∙◌, ℕ, List, [], Option, Some, None, Contains, ap, arith, length, refl, replicate, subst, sym}
+use Rattle.std.proofs.Common.{◌≡◌, ◌∙◌, ℕ, [], None, Contains, ap, arith, refl, subst, sym}
 use Rattle.std.specs.BTreeMap as tree
 use Rattle.std.specs.FinMap as finite
 use Rattle.std.specs.FinSet as set
@@ -7,17 +7,15 @@ use Rattle.std.specs.Map.{lookup}
 use Rattle.std.specs.BTreeMap.{is_at}
 use Rattle.gz_names.specs.Order.{name_cmp}
 use Rattle.gz_names.specs.declared.names.Name.{Name}
-use Rattle.gz_names.specs.declared.numbers.Place.{Place}
 use Rattle.colour_defs.specs.Graph.{empty_graph}
-use Rattle.colour_defs.specs.World.{Has, World, first_world}
+use Rattle.colour_defs.specs.World.{first_world}
 use Rattle.colour_defs.proofs.Lists.{nothing_in_none}
 use Rattle.colour_defs.proofs.ValidRuns.{first_valid}
 use Rattle.plain_graph.specs.Indexed.{order_of}
 use Rattle.plain_graph.specs.Reach.{WalkState}
 use Rattle.judge.specs.Cells.{Cells}
 use Rattle.judge.specs.Represents.{IsAtStage, IsBlackIn, Represents}
-use Rattle.judge.specs.Stages.{IsFirst, Shown, Stage, idle}
-use Rattle.judge.specs.Weak.{IsWatched}
+use Rattle.judge.specs.Stages.{IsFirst, Shown, Stage}
 use Rattle.judge.proofs.LiveRuns.{first_live}
 use Rattle.judge.proofs.NameSets.{sorted_has}
 use Rattle.judge.proofs.Progress.{IsWhole}

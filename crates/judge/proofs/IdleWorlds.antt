@@ -1,5 +1,5 @@
 -- A collection begins, and a zone is compacted: there is a world after each, for which the judge stands.
-use Rattle.std.proofs.Common.{◌≡◌, ◌↔◌, ◌⊎◌, ◌∙◌, ◌<◌, ◌^◌, ◌&&◌, inl, inr, ℕ, Bool, true, false, not, List, [], ◌∷◌, Option, Some}
+use Rattle.std.proofs.Common.{◌≡◌, ◌↔◌, ◌∙◌, ◌<◌, ◌^◌, ℕ, Bool, true, false, not, [], Some}
 use Rattle.std.proofs.Common.{arith, None, Contains, ap, refl, subst, sym}
 use Rattle.std.specs.FinSet as set
 use Rattle.gz_names.specs.Zones.{zones_in}
@@ -9,8 +9,8 @@ use Rattle.colour_defs.specs.Compaction.{Compacts}
 use Rattle.colour_defs.specs.Graph.{GraphState, IsInZones, is_in_zones}
 use Rattle.colour_defs.specs.Laws.{IsValid}
 use Rattle.colour_defs.specs.Lawful.{Prepares}
-use Rattle.colour_defs.specs.World.{Has, IsIdle, Names, World, first_preparation}
-use Rattle.colour_defs.proofs.Lists.{both_of, decided, first_of_both, second_of_both}
+use Rattle.colour_defs.specs.World.{Has, Names, World, first_preparation}
+use Rattle.colour_defs.proofs.Lists.{both_of, first_of_both, second_of_both}
 use Rattle.colour_defs.proofs.Names.{names_apart}
 use Rattle.colour_defs.proofs.ZoneSets.{zones_in-has}
 use Rattle.judge.specs.Bounds.{arena_count, with_arenas}
@@ -18,7 +18,7 @@ use Rattle.judge.specs.Compaction.{Lies, Packs}
 use Rattle.judge.specs.Represents.{AreWaiting, IsAtRest, IsAtStage, Represents}
 use Rattle.judge.specs.Weak.{IsWatched}
 use Rattle.judge.specs.Replies.{AreMade}
-use Rattle.judge.specs.Stages.{Shown, Stage, idle, preparing, IsSettled}
+use Rattle.judge.specs.Stages.{Shown, Stage, idle, preparing}
 use Rattle.judge.specs.Starts.{LeavesOut}
 use Rattle.judge.proofs.Beginning.{represents_begin}
 use Rattle.judge.proofs.NameSets.{none_zones}

@@ -1,23 +1,19 @@
 -- The last line of an answer with units: the units are those of a lawful slice, or of a whole collection.
-use Rattle.std.proofs.Common.{◌≡◌, ◌≢◌, ◌⊎◌, ◌∙◌, ◌≤◌, ◌<◌, ◌+◌, ◌-◌, ℕ, inl, inr, Bool, true, false, List, [], ◌∷◌, ◌++◌, Option}
-use Rattle.std.proofs.Common.{Some, None, ap, arith, is_some, length, refl, subst, sym}
+use Rattle.std.proofs.Common.{◌≡◌, ◌∙◌, ◌≤◌, ◌+◌, ◌-◌, ℕ, inl, inr, Bool, true, false, List, [], ◌∷◌, ◌++◌, Option}
+use Rattle.std.proofs.Common.{ap, arith, is_some, length, refl, subst, sym}
 use Rattle.std.proofs.lemmas.List.{append-nil}
 use Rattle.std.specs.List.{flat_map}
-use Rattle.gz_names.specs.Zones.{zones_in}
 use Rattle.gz_names.specs.declared.commands.Cmd.{Cmd}
-use Rattle.gz_names.specs.declared.commands.Cmd.TheVariants as command
 use Rattle.gz_names.specs.declared.replies.Reply.{Reply}
-use Rattle.gz_names.specs.declared.replies.Reply.TheVariants as reply
 use Rattle.gz_names.specs.declared.replies.Report.{Report}
-use Rattle.gz_names.specs.declared.zone_sets.ZoneSet.{ZoneSet}
 use Rattle.colour_defs.specs.Graph.{GraphState}
-use Rattle.colour_defs.specs.Lawful.{Answers, AreLawfulUnits, Collects, HasTally, IsRunning, Prepares, Slices, with_spent, with_spent_preparing}
+use Rattle.colour_defs.specs.Lawful.{Answers, AreLawfulUnits, HasTally, IsRunning, Slices, with_spent, with_spent_preparing}
 use Rattle.colour_defs.specs.Units.{MeetsUnitBound, Tally}
 use Rattle.colour_defs.specs.World.{IsIdle, World, first_tally}
 use Rattle.colour_defs.proofs.ValidRuns.{answer_valid}
 use Rattle.judge.specs.Positions.{HasCounted, KeepsLaws, StandsBetween, StandsIn}
-use Rattle.judge.specs.Represents.{IsAtStage, IsPrepared, Represents}
-use Rattle.judge.specs.Replies.{IsLast, IsSliced, IsWithin}
+use Rattle.judge.specs.Represents.{IsAtStage, Represents}
+use Rattle.judge.specs.Replies.{IsSliced}
 use Rattle.judge.specs.Sound.{IsSound}
 use Rattle.judge.specs.Stages as judged
 use Rattle.judge.specs.Stages.{CountsAs, Shown, Stage, collecting, idle, is_prepared, preparing}
@@ -61,9 +57,11 @@ counts_prepared s w (collecting zones marking groups) tally at e h = absurd (cc 
 counts_prepared s w (preparing zones) tally at e (inl k) = absurd (cc (k.1, at.alone))
 counts_prepared s w (preparing zones) tally at e (inr p) =
     let same : p.0 ≡ at.preparation = cc (p.1, at.preparing_is) in
-    let first : tally ≡ first_tally w at.preparation = p.2 ∙ ap (λ q. first_tally w q) same in
-    (sym at.arenas_are ∙ sym (ap (λ (t : Tally). t.arenas) first), sym at.spent_is
-    ∙ sym (ap (λ (t : Tally). t.spent) first))
+    let first : tally ≡ first_tally w at.preparation = p.2 ∙ ap (λ q. first_tally w q) same in (
+      sym at.arenas_are ∙ sym (ap (λ (t : Tally). t.arenas) first),
+      sym at.spent_is
+          ∙ sym (ap (λ (t : Tally). t.spent) first),
+    )
 
 counts_same : (s : Shown) (w : World) (tally : Tally) (rs : List Report) → IsAtStage s.stage s w → HasCounted s w tally rs
     → (b : Bool) → is_prepared s.stage ≡ b → CountsAs b s.tally tally rs

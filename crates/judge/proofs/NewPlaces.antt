@@ -1,13 +1,12 @@
 -- A cell that is new lies in its place by the definitions.
-use Rattle.std.proofs.Common.{◌≡◌, ◌⊎◌, ◌∙◌, inl, inr, ℕ, List, Option, Some, None, ap, is_some, subst, sym}
+use Rattle.std.proofs.Common.{◌≡◌, ◌∙◌, inl, inr, Option, Some, None, ap, is_some, subst, sym}
 use Rattle.std.specs.BTreeMap as tree
 use Rattle.gz_names.specs.declared.names.Name.{Name}
-use Rattle.gz_names.specs.declared.numbers.Place.{Place}
 use Rattle.colour_defs.specs.Graph.{GraphState, zone_of}
 use Rattle.colour_defs.specs.World.{IsPlaceFor}
 use Rattle.plain_graph.specs.Indexed.{order_of}
 use Rattle.judge.specs.Cells.{Cells, GivesPlace, GivesPlaces, HasCell}
-use Rattle.judge.specs.Represents.{IsInPlace, IsPlaceIn, LiesInPlace}
+use Rattle.judge.specs.Represents.{IsInPlace, LiesInPlace}
 use Rattle.judge.specs.Stages.{Changes, GetsPlace, LiesIn, Shown}
 use Rattle.judge.specs.declared.former.Change.{Change}
 use Rattle.judge.proofs.Watching.{same_or_not}

@@ -1,15 +1,14 @@
 -- A collection is over, or runs, for the judge just where it is so by the definitions; and the line that tells watched
 -- cells changes no world.
-use Rattle.std.proofs.Common.{◌≡◌, ◌≢◌, ◌⊎◌, ◌↔◌, ◌∙◌, inl, inr, ℕ, List, [], ◌∷◌, Option, Some, None, Contains, ap, refl, subst, sym}
+use Rattle.std.proofs.Common.{◌≡◌, ◌≢◌, ◌⊎◌, ◌∙◌, inl, inr, ℕ, List, [], ◌∷◌, Option, Some, None, ap, refl, subst, sym}
 use Rattle.gz_names.specs.declared.names.Name.{Name}
 use Rattle.gz_names.specs.declared.zone_sets.ZoneSet.{ZoneSet}
 use Rattle.colour_defs.specs.Graph.{GraphState}
 use Rattle.colour_defs.specs.Lawful.{IsOver, IsRunning}
 use Rattle.colour_defs.specs.World.{Collection, IsIdle, World}
-use Rattle.judge.specs.Represents.{HasFound, IsAtStage, IsCollected, Represents, zones_of_groups}
+use Rattle.judge.specs.Represents.{IsAtStage, IsCollected, Represents, zones_of_groups}
 use Rattle.judge.specs.Stages as judged
 use Rattle.judge.specs.Stages.{Shown, Stage, collecting, idle, preparing}
-use Rattle.judge.specs.Walks.{Walks}
 
 no_groups : (groups : Option (List ZoneSet)) → zones_of_groups groups ≡ Some [] → groups ≡ Some []
 no_groups None e = absurd (cc e)
@@ -94,12 +93,15 @@ told_stage s told w (collecting z m groups) c = record {
   groups_are = c.groups_are;
   tally_is = c.tally_is;
   none_out = c.none_out;
-  found = λ left. let h = c.found left in (h.0, record {
-    walks_are = h.1.walks_are;
-    former_is = h.1.former_is;
-    black_are = h.1.black_are;
-    live_are = h.1.live_are;
-  });
+  found = λ left. let h = c.found left in (
+    h.0,
+    record {
+      walks_are = h.1.walks_are;
+      former_is = h.1.former_is;
+      black_are = h.1.black_are;
+      live_are = h.1.live_are;
+    },
+  );
   first = c.first;
 }
 

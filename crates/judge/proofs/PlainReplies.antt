@@ -1,5 +1,5 @@
 -- A command on the graph has one line for its reply.
-use Rattle.std.proofs.Common.{◌≡◌, ℕ, Bool, true, false, cond, List, [], ◌∷◌, Option, Some, None, length, nat_lt, refl, slice_get}
+use Rattle.std.proofs.Common.{◌≡◌, ℕ, [], ◌∷◌, Option, Some, None, length, nat_lt, refl, slice_get}
 use Rattle.gz_names.specs.declared.limits.TheConstants.{COMP_LIMIT, ZONE_LIMIT}
 use Rattle.gz_names.specs.declared.names.Name.{Name}
 use Rattle.gz_names.specs.declared.names.Name.TheVariants.{Cell, Wrap}

@@ -1,12 +1,11 @@
 -- A report that is judged: there is a world after it by the definitions, for which the judge stands.
-use Rattle.std.proofs.Common.{◌≡◌, ◌≢◌, ◌∙◌, ℕ, ◌+◌, Bool, true, false, List, [], ◌∷◌, ◌++◌, Option, Some, None, ap, arith, map}
+use Rattle.std.proofs.Common.{◌≡◌, ◌≢◌, ◌∙◌, ℕ, ◌+◌, false, List, [], ◌∷◌, ◌++◌, ap, arith}
 use Rattle.std.proofs.Common.{inl, inr, length, refl, subst, sym}
 use Rattle.gz_names.specs.Zones.{zones_in}
 use Rattle.gz_names.specs.declared.names.Name.{Name}
 use Rattle.gz_names.specs.declared.zone_sets.ZoneSet.{ZoneSet}
 use Rattle.gz_names.specs.declared.replies.Report.{Report}
 use Rattle.gz_names.specs.declared.replies.Report.TheVariants as report
-use Rattle.colour_defs.specs.Graph.{GraphState}
 use Rattle.colour_defs.specs.Lawful.{HasTally, IsLawfulReport, IsRunning}
 use Rattle.colour_defs.specs.Units.{Tally, sweeps_in}
 use Rattle.colour_defs.specs.World.{World, first_tally}

@@ -1,7 +1,6 @@
 -- Within a reset: the arenas that were swept so far, and the report with which it ends.
-use Rattle.std.proofs.Common.{◌≡◌, ◌≢◌, ◌⊎◌, ◌∙◌, ℕ, inl, inr, List, [], ◌∷◌, ◌++◌, Option, Some, None, ap, length, refl, subst, sym}
+use Rattle.std.proofs.Common.{◌≡◌, ◌≢◌, ◌∙◌, ℕ, List, [], ◌∷◌, ◌++◌, ap, length, refl, subst, sym}
 use Rattle.std.proofs.lemmas.List.{append-nil}
-use Rattle.gz_names.specs.Zones.{zones_in}
 use Rattle.gz_names.specs.declared.names.Name.{Name}
 use Rattle.gz_names.specs.declared.replies.Report.{Report}
 use Rattle.gz_names.specs.declared.replies.Report.TheVariants as report
@@ -15,8 +14,8 @@ use Rattle.judge.specs.Represents.{Represents}
 use Rattle.judge.specs.Sound.{IsSound}
 use Rattle.judge.specs.Stages as judged
 use Rattle.judge.specs.Stages.{IsResetReport, Shown, Stops, Sweeps, idle}
-use Rattle.judge.specs.Transcripts.{lines_of_report, lines_of_reports, told_lines}
-use Rattle.judge.proofs.ReportWorlds.{for_of, stands_after, swept_running}
+use Rattle.judge.specs.Transcripts.{lines_of_report, lines_of_reports}
+use Rattle.judge.proofs.ReportWorlds.{for_of, stands_after}
 use Rattle.judge.proofs.Transcribing.{lines_both, sweeps_more}
 use Rattle.judge.proofs.WorldForms.{finished_lawful, finished_represents, finished_world}
 use Rattle.judge.proofs.WorldStops.{stopped_lawful, stopped_represents, stopped_world}

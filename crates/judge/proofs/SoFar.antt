@@ -1,27 +1,26 @@
 -- Lines that are judged are lawful so far.
-use Rattle.std.proofs.Common.{◌≡◌, ◌≢◌, ◌⊎◌, ◌∙◌, ◌≤◌, ℕ, ◌+◌, inl, inr, Bool, true, false, List, [], ◌∷◌, ◌++◌, Option, Some, None}
+use Rattle.std.proofs.Common.{◌≡◌, ◌∙◌, ◌≤◌, ℕ, ◌+◌, inl, inr, Bool, List, [], ◌∷◌, ◌++◌, Option, None}
 use Rattle.std.proofs.Common.{ap, append_assoc, arith, length, map, refl, subst, sym}
 use Rattle.std.proofs.lemmas.List.{append-nil}
 use Rattle.std.specs.List.{flat_map}
-use Rattle.gz_names.specs.Zones.{zones_in}
 use Rattle.gz_names.specs.declared.commands.Cmd.{Cmd}
-use Rattle.gz_names.specs.declared.commands.Cmd.TheVariants as command
 use Rattle.gz_names.specs.declared.replies.Report.{Report}
 use Rattle.gz_names.specs.declared.replies.Report.TheVariants as report
 use Rattle.colour_defs.specs.Graph.{GraphState}
-use Rattle.colour_defs.specs.Lawful.{AreLawfulUnits, DoesUnits, StartsToAnswer, last}
+use Rattle.colour_defs.specs.Lawful.{AreLawfulUnits, DoesUnits, last}
 use Rattle.colour_defs.specs.World.{World}
 use Rattle.colour_defs.proofs.Lists.{length_push}
-use Rattle.judge.specs.Replies.{Due, Judged, dump, marked, nothing, reply, resets, units as units_due}
+use Rattle.judge.specs.Replies.{Due, dump, marked, nothing, reply, resets, units as units_due}
 use Rattle.judge.specs.Running.{HasUnits}
 use Rattle.judge.specs.Stages.{Shown}
-use Rattle.judge.specs.Transcripts.{AreOfAnswer, HasBegun, HasLines, IsLawfulSoFar, dump_line, lines_of_report}
+use Rattle.judge.specs.Transcripts.{AreOfAnswer, HasLines, IsLawfulSoFar, dump_line, lines_of_report}
 use Rattle.judge.specs.Transcripts.{lines_of_reports, told_lines, transcript}
-use Rattle.judge.specs.Verdicts.{HasJudged}
+use Rattle.judge.specs.Endings.{EndsWithin, IsFirstUnread}
+use Rattle.judge.specs.Verdicts.{HasJudged, IsCut, IsFirstBad}
 use Rattle.judge.proofs.NewPlaces.{places_new}
-use Rattle.judge.proofs.Progress.{AreUnitsOf, IsDueNow, IsInAnswer, IsInUnits, IsWhole, Progress, UpTo, collect, finish, slice}
+use Rattle.judge.proofs.Progress.{AreUnitsOf, IsDueNow, IsInAnswer, Progress, UpTo, collect, finish, slice}
 use Rattle.judge.proofs.Soundness.{reached}
-use Rattle.judge.proofs.Transcribing.{flat_more, lines_both, units_more}
+use Rattle.judge.proofs.Transcribing.{flat_more, has_more, lines_both, units_more}
 use Rattle.judge.proofs.UnitLines.{HasUnitsSoFar, IsInUnit, between, ending}
 
 -- lines that are those of a lawful answer, as far as they go
@@ -70,7 +69,7 @@ front_at begun g s reports part units (r ∷ []) now (ending u lu run nd lawful 
   few = let l = length_push units (r ∷ report.Done ∷ []) in omega (arith, count, l);
   more = told_lines s.told ++ (lines_of_report report.Done ++ []);
   front = ap lines_of_reports (flat_more (λ (u : List Report). u) units (r ∷ report.Done ∷ [])
-          ∙ sym (append_assoc (flat_map (λ (u : List Report). u) units) (r ∷ []) (report.Done ∷ [])))
+      ∙ sym (append_assoc (flat_map (λ (u : List Report). u) units) (r ∷ []) (report.Done ∷ [])))
       ∙ lines_both (flat_map (λ (u : List Report). u) units ++ r ∷ []) (report.Done ∷ [])
       ∙ ap (λ ls. ls ++ (lines_of_report report.Done ++ [])) (sym lines)
       ∙ append_assoc part (told_lines s.told) (lines_of_report report.Done ++ []);
@@ -174,3 +173,20 @@ judged_so_far input n rest due j = let r = reached places_new input j.judged in 
   has = r.has;
   so_far = so_far r.lines j.graph j.shows due r.up_to;
 }
+
+-- how a transcript ends that is lawful so far
+pub cut_within : (input : List ℕ) → IsCut input → EndsWithin input
+cut_within input (n, due, j, some) =
+    let l = judged_so_far input n [] due j in record { lines = l.lines; has = l.has; so_far = l.so_far }
+
+pub bad_unread : (input : List ℕ) (n : ℕ) → IsFirstBad input n → IsFirstUnread input n
+bad_unread input n (before, due, line, is, next, bad) =
+    let l = judged_so_far input before next.rest due next.before in record {
+      before = l.lines;
+      line = line;
+      rest = next.more;
+      has = has_more input l.lines next.rest next.more line l.has next.one next.ends;
+      number = is ∙ ap (λ k. k + 1) l.number;
+      so_far = l.so_far;
+      bad = bad;
+    }

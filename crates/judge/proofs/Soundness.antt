@@ -1,8 +1,7 @@
 -- The judge is sound: what it judges whole is a lawful transcript, line by line.
-use Rattle.std.proofs.Common.{◌≡◌, ◌≢◌, ◌⊎◌, ◌∙◌, ℕ, ◌+◌, inl, inr, Bool, true, false, List, [], ◌∷◌, ◌++◌, Option, Some, None}
-use Rattle.std.proofs.Common.{ap, append_assoc, arith, codes, length, map, refl, replicate, subst, sym}
+use Rattle.std.proofs.Common.{◌≡◌, ◌≢◌, ◌∙◌, ℕ, ◌+◌, inl, inr, Bool, List, [], ◌∷◌, ◌++◌, Option, Some, None}
+use Rattle.std.proofs.Common.{ap, append_assoc, arith, codes, length, map, refl, subst, sym}
 use Rattle.std.specs.List.{flat_map}
-use Rattle.gz_io.specs.Lines.{EndsLine}
 use Rattle.gz_names.specs.declared.commands.Cmd.{Cmd}
 use Rattle.gz_names.specs.declared.commands.Cmd.TheVariants as command
 use Rattle.gz_names.specs.declared.dumps.DumpLine.{DumpLine}
@@ -10,27 +9,26 @@ use Rattle.gz_names.specs.declared.replies.Reply.{Reply}
 use Rattle.gz_names.specs.declared.replies.Reply.TheVariants as answer
 use Rattle.gz_names.specs.declared.replies.Report.{Report}
 use Rattle.gz_names.specs.declared.replies.Report.TheVariants as report
-use Rattle.colour_defs.specs.Graph.{GraphState, empty_graph}
+use Rattle.colour_defs.specs.Graph.{GraphState}
 use Rattle.colour_defs.specs.Lawful.{Answers, IsRunning, Slices}
-use Rattle.colour_defs.specs.World.{IsIdle, World, first_world}
+use Rattle.colour_defs.specs.World.{IsIdle, World}
 use Rattle.colour_defs.proofs.Lists.{length_push}
 use Rattle.trace_lang.specs.Grammar.{Spells}
 use Rattle.trace_lang.specs.Texts.{reply_text, report_text}
-use Rattle.judge.specs.Lines.{IsOneLine}
 use Rattle.judge.specs.Positions.{KeepsLaws, StandsBetween}
 use Rattle.judge.specs.Represents.{Represents}
-use Rattle.judge.specs.Replies.{Asks, Due, IsAnswered, IsDumped, IsLast, IsSliced, IsUnmarked, Judged, after_reset, answered, asked, dump}
-use Rattle.judge.specs.Replies.{dump_due, graph_after, marked, none, nothing, reply, resets, units}
+use Rattle.judge.specs.Replies.{Asks, Due, IsAnswered, IsDumped, IsLast, IsSliced, Judged, after_reset, answered, asked, dump}
+use Rattle.judge.specs.Replies.{graph_after, marked, none, nothing, reply, resets, units}
 use Rattle.judge.specs.Sound.{IsSound}
-use Rattle.judge.specs.Stages.{IsFirst, IsResetLine, IsResetReport, Shown, Stage, collecting, idle, preparing}
-use Rattle.judge.specs.Transcripts.{HasLines, HasSmallNumber, IsLawfulInput, dump_line, lines_of_answer, lines_of_reports}
+use Rattle.judge.specs.Stages.{IsResetReport, Shown, Stage, collecting, idle, preparing}
+use Rattle.judge.specs.Transcripts.{HasLines, HasSmallNumber, IsLawfulInput, dump_line, lines_of_answer}
 use Rattle.judge.specs.Transcripts.{transcript}
-use Rattle.judge.specs.Verdicts.{HasJudged, IsJudgedWhole}
+use Rattle.judge.specs.Verdicts.{IsJudgedWhole}
 use Rattle.judge.proofs.FirstWorld.{first_whole}
 use Rattle.judge.proofs.LastWorlds.{closing, slice_ends, whole_ends}
 use Rattle.judge.proofs.OverBoth.{idle_of}
-use Rattle.judge.proofs.Progress.{AreUnitsOf, IsDueNow, IsInAnswer, IsInUnits, IsWhole, Progress, UpTo, collect, finish, slice}
-use Rattle.judge.proofs.ResetLines.{HasReset, HasSweptSoFar, done_ends, stop_ends, sweep_next}
+use Rattle.judge.proofs.Progress.{AreUnitsOf, IsDueNow, IsInAnswer, IsWhole, Progress, UpTo, collect, finish, slice}
+use Rattle.judge.proofs.ResetLines.{HasReset, done_ends, stop_ends, sweep_next}
 use Rattle.judge.proofs.Sound.{sound_first, sound_steps}
 use Rattle.judge.proofs.StartAnswers.{PlacesCells, starts, still_open}
 use Rattle.judge.proofs.Transcribing.{has_more, lawful_more, lines_more}
@@ -76,14 +74,17 @@ module _ (before : World) (laws : KeepsLaws before) (g : GraphState) (s t : Show
       let w = whole_ends begun g s reports part idle_is untold h in
       let reports_all = flat_map (λ (u : List Report). u) w.0 in
       let lawful : Answers before (command.Collect zones) (flat_map (λ (u : List Report). u) w.0) answer.Collected w.1 =
-      inl (refl, record {
-        begun = begun;
-        begins = prepares;
-        units = w.0;
-        done = w.2;
-        reports_are = refl;
-        over = idle_of s w.1 w.4.represents idle_is;
-      }) in (
+      inl (
+        refl,
+        record {
+          begun = begun;
+          begins = prepares;
+          units = w.0;
+          done = w.2;
+          reports_are = refl;
+          over = idle_of s w.1 w.4.represents idle_is;
+        },
+      ) in (
         flat_map (λ (u : List Report). u) w.0,
         answer.Collected,
         w.1,
@@ -103,15 +104,18 @@ module _ (before : World) (laws : KeepsLaws before) (g : GraphState) (s t : Show
       → IsEnd before command.Reset g t (part ++ line ∷ [])
   reset_ends run h text =
       let lawful : Answers before command.Reset (h.sweeps ++ h.final ∷ []) answer.ResetDone h.after =
-      inl (refl, record {
-        running = run;
-        sweeps = h.sweeps;
-        after = h.now;
-        swept = h.swept;
-        final = h.final;
-        ends = h.ends;
-        reports_are = refl;
-      }) in (
+      inl (
+        refl,
+        record {
+          running = run;
+          sweeps = h.sweeps;
+          after = h.now;
+          swept = h.swept;
+          final = h.final;
+          ends = h.ends;
+          reports_are = refl;
+        },
+      ) in (
         h.sweeps ++ h.final ∷ [],
         answer.ResetDone,
         h.after,
@@ -327,11 +331,14 @@ reached places input (answered {n} {rest} {more} {line} {g} {due} {next} {old} {
 -- what is judged whole is lawful
 pub sound_judge : PlacesCells → (input : List ℕ) → IsJudgedWhole input → IsLawfulInput input
 sound_judge places input (n, j) =
-    let r = reached places input j.judged in
-    (r.lines, r.has, record {
-      trace = r.up_to.trace;
-      answers = r.up_to.answers;
-      after = r.up_to.world;
-      lawful = r.up_to.lawful;
-      lines_are = r.up_to.lines_are;
-    })
+    let r = reached places input j.judged in (
+      r.lines,
+      r.has,
+      record {
+        trace = r.up_to.trace;
+        answers = r.up_to.answers;
+        after = r.up_to.world;
+        lawful = r.up_to.lawful;
+        lines_are = r.up_to.lines_are;
+      },
+    )

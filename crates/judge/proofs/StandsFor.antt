@@ -1,10 +1,10 @@
 -- A world of the definitions that the judge stands for, which is valid; and what both name alike.
-use Rattle.std.proofs.Common.{◌≡◌, ◌⊎◌, ◌↔◌, ◌∙◌, ◌<◌, inl, inr, ℕ, List, [], Option, Some, None, Contains, ap, is_some}
+use Rattle.std.proofs.Common.{◌≡◌, ◌⊎◌, ◌↔◌, ◌∙◌, ◌<◌, inl, inr, List, [], Option, Some, None, Contains, ap, is_some}
 use Rattle.std.proofs.Common.{length, slice_index_or, subst, sym}
 use Rattle.std.proofs.lemmas.Option.{get_or_from_slice_get, slice_get-get_or}
 use Rattle.gz_names.specs.declared.names.Name.{Name}
 use Rattle.colour_defs.specs.Closure.{Closure, along, delegate, from, weak}
-use Rattle.colour_defs.specs.Graph.{GraphState, register_cell, slot_cell}
+use Rattle.colour_defs.specs.Graph.{GraphState}
 use Rattle.colour_defs.specs.Laws.{IsValid}
 use Rattle.colour_defs.specs.World.{IsPresent, World}
 use Rattle.colour_defs.proofs.Lists.{get_contains, nothing_in_none}

@@ -1,6 +1,6 @@
 -- A command is read: its answer has begun lawfully.
-use Rattle.std.proofs.Common.{◌≡◌, ◌≢◌, ◌⊎◌, ◌↔◌, ◌∙◌, ℕ, ◌<◌, ◌^◌, inl, inr, Bool, true, false, cond, List, [], ◌∷◌, ◌++◌, Option}
-use Rattle.std.proofs.Common.{◌+◌, arith, Some, None, Contains, ap, length, map, refl, slice_index_or, subst, sym, slice_set}
+use Rattle.std.proofs.Common.{◌≡◌, ◌≢◌, ◌∙◌, ℕ, ◌<◌, ◌^◌, inl, inr, Bool, true, false, cond, List, [], ◌∷◌, Option}
+use Rattle.std.proofs.Common.{◌+◌, arith, Some, None, Contains, ap, refl, slice_index_or, subst, sym}
 use Rattle.std.specs.FinSet as set
 use Rattle.gz_names.specs.Zones.{zones_in}
 use Rattle.gz_names.specs.declared.names.Name.{Name}
@@ -10,35 +10,31 @@ use Rattle.gz_names.specs.declared.commands.Cmd.TheVariants as command
 use Rattle.gz_names.specs.declared.commands.GraphCmd.{GraphCmd}
 use Rattle.gz_names.specs.declared.commands.WeakCmd.{WeakCmd}
 use Rattle.gz_names.specs.declared.commands.WeakCmd.TheVariants as weak_command
-use Rattle.gz_names.specs.declared.dumps.DumpLine.{DumpLine}
 use Rattle.gz_names.specs.declared.replies.Refusal.{Refusal}
 use Rattle.gz_names.specs.declared.replies.Refusal.TheVariants as refusal
 use Rattle.gz_names.specs.declared.replies.Reply.{Reply}
 use Rattle.gz_names.specs.declared.replies.Reply.TheVariants as answer
-use Rattle.gz_names.specs.declared.replies.Report.{Report}
-use Rattle.colour_defs.specs.Ends.{Lists}
 use Rattle.colour_defs.specs.Graph.{GraphState, register_cell}
-use Rattle.colour_defs.specs.Lawful.{Answers, ChangesNothing, HasTally, IsRunning, RefusesIdle, RefusesToBegin}
+use Rattle.colour_defs.specs.Lawful.{Answers, ChangesNothing, HasTally, RefusesIdle, RefusesToBegin}
 use Rattle.colour_defs.specs.Step.{named_or_null, step_of, with_register}
 use Rattle.colour_defs.specs.Units.{Tally}
 use Rattle.colour_defs.specs.WeakRefs as defs
 use Rattle.colour_defs.specs.WeakRefs.{WeakInWorld, unwatch_cell, watch_cell, weak_cell}
-use Rattle.colour_defs.specs.World.{Has, IsIdle, IsPresent, IsSettled as HasSettled, Preparation, World, first_preparation}
+use Rattle.colour_defs.specs.World.{Has, IsPresent, World, first_preparation}
 use Rattle.colour_defs.specs.World.{first_tally}
 use Rattle.colour_defs.proofs.Lists.{contains_head}
 use Rattle.colour_defs.proofs.ZoneSets.{zones_in-has}
 use Rattle.trace_lang.specs.Grammar.{Spells}
 use Rattle.trace_lang.specs.Texts.{reply_text}
-use Rattle.judge.specs.Cells.{HasCell, wakes}
-use Rattle.judge.specs.Dumps.{ListsDump}
-use Rattle.judge.specs.Positions.{HasCounted, KeepsLaws, StandsBetween, StandsIn}
+use Rattle.judge.specs.Cells.{HasCell}
+use Rattle.judge.specs.Positions.{HasCounted, StandsBetween}
 use Rattle.judge.specs.Represents.{IsAtStage, LiesInPlace, Represents}
 use Rattle.judge.specs.Replies.{AreMade, Asks, AsksCompact, AsksUnwatch, AsksWatch, AsksWeak, Begins, Due, Dumps, GoesOn}
-use Rattle.judge.specs.Replies.{IsRefusal, ListsGray, begun_due, dump, graph_after, nothing, refused, reply, resets, units}
+use Rattle.judge.specs.Replies.{IsRefusal, ListsGray, begun_due, graph_after, resets, units}
 use Rattle.judge.specs.Sound.{IsSound}
 use Rattle.judge.specs.Stages as judged
 use Rattle.judge.specs.Stages.{Changes, IsSettled, Obeys, Shown, Stage, TakesNamed, collecting, idle, is_prepared, preparing}
-use Rattle.judge.specs.Transcripts.{HasSmallNumber, dump_line, lines_of_reply, lines_of_reports, told_lines}
+use Rattle.judge.specs.Transcripts.{told_lines}
 use Rattle.judge.specs.Weak.{is_watched, weak_slot}
 use Rattle.judge.specs.declared.former.Change.{Change}
 use Rattle.judge.specs.declared.weak.WeakNames.{WeakNames}
@@ -47,7 +43,7 @@ use Rattle.judge.proofs.IdleWorlds.{compacted, preparing_begun}
 use Rattle.judge.proofs.LastWorlds.{closing}
 use Rattle.judge.proofs.OverBoth.{over_to, idle_of, running_of}
 use Rattle.judge.proofs.PlainReplies.{IsPlain, named_plain, plain_step}
-use Rattle.judge.proofs.Progress.{AreUnitsOf, IsDueNow, IsInUnits, Progress, collect, finish, slice}
+use Rattle.judge.proofs.Progress.{IsDueNow, Progress, collect, finish, slice}
 use Rattle.judge.proofs.ResetLines.{HasSweptSoFar}
 use Rattle.judge.proofs.Settling.{settled_stage, settled_world}
 use Rattle.judge.proofs.Sizes.{HasSizes, command_sizes, take_sizes}
@@ -218,17 +214,22 @@ module _ (s t : Shown) (w : World) (b : StandsBetween w.graph s w) where
       let out = ap (λ (v : Bool). cond {A = World × Reply} v (defs.without_watched w x, answer.Accepted)
       (w, answer.Absent)) (is_it_watched x false was) in
       subst (λ d. Progress w (command.Weak (weak_command.Unwatch r)) w.graph t d []) (sym is)
-      (no_change (command.Weak (weak_command.Unwatch r)) answer.Absent
-      (refl, (sym (ap (λ o. (unwatch_cell w o).1) e ∙ ap (λ p. p.1) out),
-      sym (ap (λ o. (unwatch_cell w o).0) e ∙ ap (λ p. p.0) out)))
+      (no_change (command.Weak (weak_command.Unwatch r)) answer.Absent (
+        refl,
+        (
+          sym (ap (λ o. (unwatch_cell w o).1) e ∙ ap (λ p. p.1) out),
+          sym (ap (λ o. (unwatch_cell w o).0) e ∙ ap (λ p. p.0) out),
+        ),
+      )
       (record { line = refl; small = tt }) same sound)
   unwatch_starts r (Some x) e due (inr (was, is, same, n)) sound =
       let out = ap (λ (v : Bool). cond {A = World × Reply} v (defs.without_watched w x, answer.Accepted)
       (w, answer.Absent)) (is_it_watched x true was) in
       subst (λ d. Progress w (command.Weak (weak_command.Unwatch r)) w.graph t d []) (sym is)
-      (weak_line (weak_command.Unwatch r) answer.Accepted (defs.without_watched w x) t.weak
-      (sym (ap (λ o. (unwatch_cell w o).1) e ∙ ap (λ p. p.1) out),
-      sym (ap (λ o. (unwatch_cell w o).0) e ∙ ap (λ p. p.0) out)) accepted same
+      (weak_line (weak_command.Unwatch r) answer.Accepted (defs.without_watched w x) t.weak (
+        sym (ap (λ o. (unwatch_cell w o).1) e ∙ ap (λ p. p.1) out),
+        sym (ap (λ o. (unwatch_cell w o).0) e ∙ ap (λ p. p.0) out),
+      ) accepted same
       (represents_unwatched s x t.weak w b.stands.represents n) sound)
 
   named_same : (q : ℕ) → weak_cell w q ≡ weak_slot s.weak q
@@ -258,10 +259,15 @@ module _ (s t : Shown) (w : World) (b : StandsBetween w.graph s w) where
       let black = b.stands.represents.black_are still in
       subst (λ d. Progress w command.Colours w.graph t d []) (sym is)
       (no_change command.Colours (answer.Gray names)
-      (inl (names, refl, settled_world b.stands.represents b.stands.laws.valid still,
-      lists_same (λ x. HasCell s.cells x × (Contains s.black.names x → ⊥)) (λ x. IsPresent w x × (Has w.black x → ⊥)) names
-      (λ x h. ((present_is b.stands.represents x).1 h.0, λ k. h.1 ((black.names_are x).0 k)))
-      (λ x h. ((present_is b.stands.represents x).0 h.0, λ k. h.1 ((black.names_are x).1 k))) lists, quietly))
+      (inl (
+        names,
+        refl,
+        settled_world b.stands.represents b.stands.laws.valid still,
+        lists_same (λ x. HasCell s.cells x × (Contains s.black.names x → ⊥)) (λ x. IsPresent w x × (Has w.black x → ⊥)) names
+            (λ x h. ((present_is b.stands.represents x).1 h.0, λ k. h.1 ((black.names_are x).0 k)))
+            (λ x h. ((present_is b.stands.represents x).0 h.0, λ k. h.1 ((black.names_are x).1 k))) lists,
+        quietly,
+      ))
       (record { line = refl; small = tt }) same sound)
   colours_start due (inr (moves, is)) same sound =
       subst (λ d. Progress w command.Colours w.graph t d []) (sym is)
@@ -272,8 +278,13 @@ module _ (s t : Shown) (w : World) (b : StandsBetween w.graph s w) where
   dump_starts : (due : Due) → Dumps w.graph s due → t ≡ s → IsSound w.graph t → Progress w command.Dump w.graph t due []
   dump_starts due (inl (still, lines, lists, is)) same sound =
       let lawful : Answers w command.Dump [] (answer.Dump lines) w =
-      inl (lines, refl, settled_world b.stands.represents b.stands.laws.valid still,
-      lists w (settled_rests b.stands.represents still), quietly) in
+      inl (
+        lines,
+        refl,
+        settled_world b.stands.represents b.stands.laws.valid still,
+        lists w (settled_rests b.stands.represents still),
+        quietly,
+      ) in
       subst (λ d. Progress w command.Dump w.graph t d []) (sym is) (record {
         reports = [];
         answer = answer.Dump lines;

@@ -1,17 +1,13 @@
 -- Within an answer with units: the units so far are lawful, and their reports are the lines so far.
-use Rattle.std.proofs.Common.{◌≡◌, ◌≢◌, ◌⊎◌, ◌∙◌, ℕ, ◌+◌, inl, inr, Bool, true, false, List, [], ◌∷◌, ◌++◌, Option, Some, None}
+use Rattle.std.proofs.Common.{◌≡◌, ◌≢◌, ◌∙◌, ℕ, ◌+◌, inl, inr, List, [], ◌∷◌, ◌++◌}
 use Rattle.std.proofs.Common.{ap, append_assoc, arith, codes, length, refl, subst, sym}
 use Rattle.std.proofs.lemmas.List.{append-nil}
 use Rattle.std.specs.List.{flat_map}
-use Rattle.gz_names.specs.Zones.{zones_in}
 use Rattle.gz_names.specs.declared.names.Name.{Name}
-use Rattle.gz_names.specs.declared.commands.Cmd.{Cmd}
-use Rattle.gz_names.specs.declared.commands.Cmd.TheVariants as command
 use Rattle.gz_names.specs.declared.replies.Report.{Report}
 use Rattle.gz_names.specs.declared.replies.Report.TheVariants as report
 use Rattle.colour_defs.specs.Graph.{GraphState}
-use Rattle.colour_defs.specs.Lawful as defs
-use Rattle.colour_defs.specs.Lawful.{AreLawfulUnits, HasTally, IsLawfulReport, IsOver, IsRunning, Prepares, last, says}
+use Rattle.colour_defs.specs.Lawful.{AreLawfulUnits, HasTally, IsLawfulReport, IsOver, IsRunning, last, says}
 use Rattle.colour_defs.specs.Units.{Tally}
 use Rattle.colour_defs.specs.World.{World}
 use Rattle.colour_defs.proofs.Lists.{length_push}
@@ -25,9 +21,8 @@ use Rattle.judge.specs.Stages as judged
 use Rattle.judge.specs.Stages.{IsReported, IsReportedLine, IsToldLine, Shown, collecting, is_prepared}
 use Rattle.judge.specs.Transcripts.{lines_of_report, lines_of_reports, told_lines}
 use Rattle.judge.proofs.LiveReports.{report_live}
-use Rattle.judge.proofs.OverBoth.{over_back, over_or, over_to, represents_told, running_of}
-use Rattle.judge.proofs.ReportWorlds.{IsMade, for_of, report_made, still_counted, with_none}
-use Rattle.judge.proofs.StandsFor.{IsFor}
+use Rattle.judge.proofs.OverBoth.{over_back, over_or, over_to, represents_told}
+use Rattle.judge.proofs.ReportWorlds.{for_of, report_made, still_counted, with_none}
 use Rattle.judge.proofs.Transcribing.{flat_more, lines_both, units_more}
 use Rattle.judge.proofs.WorldForms.{finished_lawful, finished_represents, finished_world}
 
@@ -40,17 +35,17 @@ pub data IsInUnit (begun : World) (units : List (List Report)) : List Report →
 
 -- what an answer with units has written so far, from a world on
 pub record HasUnitsSoFar (begun : World) (g : GraphState) (s : Shown) (reports : ℕ) (part : List (List ℕ)) : Type 0
-    where
-  pub units : List (List Report)
-  pub tail : List Report
-  pub now : World
-  pub state : IsInUnit begun units tail now
-  pub stands : StandsIn g s now
-  pub lines : part ++ told_lines s.told ≡ lines_of_reports (flat_map (λ u. u) units ++ tail)
-  pub count : reports ≡ length units + length tail
-  pub tally : Tally
-  pub has_tally : HasTally begun tally
-  pub counted : HasCounted s now tally (flat_map (λ u. u) units ++ tail)
+  where
+    pub units : List (List Report)
+    pub tail : List Report
+    pub now : World
+    pub state : IsInUnit begun units tail now
+    pub stands : StandsIn g s now
+    pub lines : part ++ told_lines s.told ≡ lines_of_reports (flat_map (λ u. u) units ++ tail)
+    pub count : reports ≡ length units + length tail
+    pub tally : Tally
+    pub has_tally : HasTally begun tally
+    pub counted : HasCounted s now tally (flat_map (λ u. u) units ++ tail)
 
 -- the line that tells watched cells
 told_is : (told : List Name) (line : List ℕ) → told_text told ≡ 10 ∷ line

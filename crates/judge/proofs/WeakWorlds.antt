@@ -1,6 +1,6 @@
 -- A weak slot is set, and a cell is watched or watched no longer: the judge stands for the world after it.
-use Rattle.std.proofs.Common.{◌≡◌, ◌↔◌, ◌⊎◌, ◌∙◌, inl, inr, ℕ, Bool, true, false, ◌||◌, ◌&&◌, not, List, [], Option, Some, None}
-use Rattle.std.proofs.Common.{IsTrue, ap, cond, refl, slice_set, subst, sym}
+use Rattle.std.proofs.Common.{◌≡◌, ◌↔◌, ◌∙◌, inl, inr, ℕ, Bool, true, false, ◌||◌, ◌&&◌, not, Option}
+use Rattle.std.proofs.Common.{ap, refl, slice_set, subst, sym}
 use Rattle.std.specs.FinSet as set
 use Rattle.std.specs.Ordering.{eq_by_cmp}
 use Rattle.gz_names.specs.Order.{name_cmp, names_total}
@@ -44,12 +44,15 @@ weak_stage s weak names w (collecting z m groups) c = record {
   groups_are = c.groups_are;
   tally_is = c.tally_is;
   none_out = c.none_out;
-  found = λ left. let h = c.found left in (h.0, record {
-    walks_are = h.1.walks_are;
-    former_is = h.1.former_is;
-    black_are = h.1.black_are;
-    live_are = h.1.live_are;
-  });
+  found = λ left. let h = c.found left in (
+    h.0,
+    record {
+      walks_are = h.1.walks_are;
+      former_is = h.1.former_is;
+      black_are = h.1.black_are;
+      live_are = h.1.live_are;
+    },
+  );
   first = c.first;
 }
 

@@ -1,5 +1,5 @@
 -- As a group ends, the judge stands for a world in which it has ended lawfully.
-use Rattle.std.proofs.Common.{◌≡◌, ◌⊎◌, ◌↔◌, ◌∙◌, ◌++◌, inl, inr, ℕ, Bool, true, false, cond, List, [], ◌∷◌, Option, Some, None}
+use Rattle.std.proofs.Common.{◌≡◌, ◌↔◌, ◌∙◌, ◌++◌, inl, inr, ℕ, Bool, true, false, cond, List, [], ◌∷◌, Option, Some, None}
 use Rattle.std.proofs.Common.{◌≤◌, length, Contains, IsTrue, ap, is_some, map, refl, subst, sym, eqb, eqb-true, eq-eqb}
 use Rattle.std.proofs.lemmas.List.Elements.{Contains-append_cases, Contains-append_left, Contains-append_right}
 use Rattle.std.specs.BTreeMap as tree
@@ -10,24 +10,23 @@ use Rattle.gz_names.specs.Zones.{zones_in}
 use Rattle.gz_names.specs.declared.names.Name.{Name}
 use Rattle.gz_names.specs.declared.numbers.Place.{Place}
 use Rattle.gz_names.specs.declared.zone_sets.ZoneSet.{ZoneSet}
-use Rattle.colour_defs.specs.Ends.{IsGrayOf, IsLawfulEnd, IsWhiteOf, Lists, arenas_from, zones_without}
-use Rattle.colour_defs.specs.Graph.{IsInZones, is_in_zones}
+use Rattle.colour_defs.specs.Ends.{IsGrayOf, IsWhiteOf, Lists, arenas_from, zones_without}
+use Rattle.colour_defs.specs.Graph.{is_in_zones}
 use Rattle.colour_defs.specs.Laws.{AreValidGroups, IsValidMarking}
 use Rattle.colour_defs.specs.Lawful as lawful
 use Rattle.colour_defs.specs.WeakRefs as weak
-use Rattle.colour_defs.specs.World as world
-use Rattle.colour_defs.specs.World.{BlackClosure, Collection, Has, IsPresent, IsSettled, LiveClosure, World}
+use Rattle.colour_defs.specs.World.{BlackClosure, Collection, Has, IsPresent, World}
 use Rattle.colour_defs.proofs.Carried.{black_in_live}
 use Rattle.colour_defs.proofs.Lists.{contains_cases, contains_head, contains_tail, decided, nothing_in_none}
 use Rattle.colour_defs.proofs.Membership.{among_to, gray_of, some_member, white_is_not_live, white_of, without_has}
 use Rattle.colour_defs.proofs.Names.{names_apart}
 use Rattle.plain_graph.specs.Indexed.{order_of}
 use Rattle.judge.specs.Cells.{HasCell, IsGray, IsWhite}
-use Rattle.judge.specs.Represents.{AreWaiting, HasFound, IsAtStage, IsBlackIn, IsCollected, Represents}
+use Rattle.judge.specs.Represents.{AreWaiting, HasFound, IsAtStage, IsCollected, Represents}
 use Rattle.judge.specs.Sound.{AreFollowed}
 use Rattle.judge.specs.Stages as judged
 use Rattle.judge.specs.Stages.{EndsGroup, HasGroups, Shown, Stage, collecting}
-use Rattle.judge.specs.Walks.{IsFoundBlack, IsFoundLive, Walks}
+use Rattle.judge.specs.Walks.{IsFoundBlack, IsFoundLive}
 use Rattle.judge.specs.Weak as judged_weak
 use Rattle.judge.specs.Weak.{IsWatched}
 use Rattle.judge.specs.Whites.{is_at, lies_in, whites_in}
@@ -259,8 +258,14 @@ module _ (s t : Shown) (w : World) (f : IsFor s w) (group : ZoneSet) (grays : Li
       (IsGrayOf w k (zones_in group)) grays
       (λ x h. gray_of w k (zones_in group) x (present_of s w f.represents x h.0) h.1.0 ((found.live_are x).1 h.1.1)
       (λ b. h.1.2 ((found.black_are x).0 b)))
-      (λ x h. (cell_of s w f.represents x h.present, (h.here, (found.live_are x).0 h.gray.live,
-      λ b. h.gray.not_black ((found.black_are x).1 b)))) e.colours.grays_are
+      (λ x h. (
+        cell_of s w f.represents x h.present,
+        (
+          h.here,
+          (found.live_are x).0 h.gray.live,
+          λ b. h.gray.not_black ((found.black_are x).1 b),
+        ),
+      )) e.colours.grays_are
 
   pub ended_lawful : lawful.EndsGroup w (zones_in group) grays t.told ended_world
   ended_lawful = record {
@@ -287,12 +292,16 @@ module _ (s t : Shown) (w : World) (f : IsFor s w) (group : ZoneSet) (grays : Li
         λ h. (let now = (sorted_has t.weak.watched x).1 ((set_has t.weak.watched.keys x).0 h) in
             let then = (e.loses.watched_are x).0 now in
             let watched = (f.represents.watched_are x).1 then.0 in
-            let here = f.valid.presence.watched x watched in
-            (watched, stays x here (λ white. then.1
-            ((e.loses.told_are.has x).1 ((cell_of s w f.represents x here, white), then.0))))),
-        λ h. (set_has t.weak.watched.keys x).1 ((sorted_has t.weak.watched x).0 ((e.loses.watched_are x).1
-            ((f.represents.watched_are x).0 h.0, λ c. let told = (e.loses.told_are.has x).0 c in
-            not_here x (present_of s w f.represents x told.0.0) told.0.1 h.1))),
+            let here = f.valid.presence.watched x watched in (
+              watched,
+              stays x here (λ white. then.1
+                  ((e.loses.told_are.has x).1 ((cell_of s w f.represents x here, white), then.0))),
+            )),
+        λ h. (set_has t.weak.watched.keys x).1 ((sorted_has t.weak.watched x).0 ((e.loses.watched_are x).1 (
+          (f.represents.watched_are x).0 h.0,
+          λ c. let told = (e.loses.told_are.has x).0 c in
+              not_here x (present_of s w f.represents x told.0.0) told.0.1 h.1,
+        ))),
       );
       told_are = lists_same (λ x. (HasCell s.cells x × IsWhite w.graph (zones_in group) s.former.graph e.walks x)
           × IsWatched s.weak x) (λ x. Has w.weak.watched x × (IsPresent ended_world x → ⊥)) t.told

@@ -1,12 +1,11 @@
 -- As groups are formed, and as a collection is over, the judge stands for a world in which this came lawfully.
-use Rattle.std.proofs.Common.{◌≡◌, ◌↔◌, ◌∙◌, inl, inr, ℕ, List, [], Option, Some, None, ap, map, refl, subst, sym}
+use Rattle.std.proofs.Common.{◌≡◌, ◌∙◌, List, [], Option, Some, None, map, refl, subst, sym}
 use Rattle.gz_names.specs.Zones.{zones_in}
-use Rattle.gz_names.specs.declared.names.Name.{Name}
 use Rattle.gz_names.specs.declared.zone_sets.ZoneSet.{ZoneSet}
 use Rattle.colour_defs.specs.Lawful.{Finishes, FormsGroups, IsOver}
-use Rattle.colour_defs.specs.World.{BlackClosure, Collection, LiveClosure, World, marking_of}
+use Rattle.colour_defs.specs.World.{Collection, World}
 use Rattle.colour_defs.proofs.ValidReports.{no_marking}
-use Rattle.judge.specs.Represents.{HasFirstBlack, HasFound, IsAtStage, IsCollected, Represents}
+use Rattle.judge.specs.Represents.{HasFound, IsAtStage, IsCollected, Represents}
 use Rattle.judge.specs.Stages as judged
 use Rattle.judge.specs.Stages.{Forms, HasGroups, IsSettled, Shown, Stage, collecting, idle}
 use Rattle.judge.specs.Walks.{CatchUp, CatchesUp, Walks}

@@ -1,18 +1,16 @@
 -- As marking begins, the judge stands for a world in which it has begun lawfully.
-use Rattle.std.proofs.Common.{◌≡◌, ◌⊎◌, ◌↔◌, ◌∙◌, inl, inr, ℕ, List, [], Option, Some, None, Contains, ap, refl, subst, sym}
+use Rattle.std.proofs.Common.{◌≡◌, ◌⊎◌, ◌↔◌, ◌∙◌, inl, inr, List, [], Some, None, Contains, ap, refl, subst, sym}
 use Rattle.std.specs.FinSet as set
 use Rattle.gz_names.specs.Order.{name_cmp}
 use Rattle.gz_names.specs.Zones.{zones_in}
 use Rattle.gz_names.specs.declared.names.Name.{Name}
-use Rattle.gz_names.specs.declared.zone_sets.ZoneSet.{ZoneSet}
 use Rattle.colour_defs.specs.Closure.{Closure, from}
-use Rattle.colour_defs.specs.Graph.{GraphState, IsInZones}
+use Rattle.colour_defs.specs.Graph.{IsInZones}
 use Rattle.colour_defs.specs.Laws.{IsValidPreparing}
 use Rattle.colour_defs.specs.Lawful.{Begins}
-use Rattle.colour_defs.specs.World.{BlackClosure, Collection, Has, IsPresent, LiveClosure, World, first_tally}
-use Rattle.judge.specs.Represents.{HasFirstBlack, HasFound, IsBlackIn, IsCollected, IsPrepared, Represents, IsAtStage}
-use Rattle.judge.specs.Stages.{Shown, Starts, Stage, collecting, preparing}
-use Rattle.judge.specs.Walks.{IsFoundBlack, IsFoundLive, Walks}
+use Rattle.colour_defs.specs.World.{Collection, Has, IsPresent, World, first_tally}
+use Rattle.judge.specs.Represents.{HasFirstBlack, HasFound, IsPrepared, Represents, IsAtStage}
+use Rattle.judge.specs.Stages.{Shown, Starts, Stage, collecting}
 use Rattle.judge.proofs.Formers.{former_is}
 use Rattle.judge.proofs.NameSets.{set_has, set_of, zones_none}
 use Rattle.judge.proofs.StandsFor.{IsFor, alone_reach, cell_of, of_register, of_slot, present_of, reached_through}

@@ -1,22 +1,20 @@
 -- As a collection is given up, the judge stands for a world in which this came lawfully.
 use Rattle.std.proofs.Common.{◌≡◌, ◌⊎◌, ◌↔◌, ◌∙◌, inl, inr, ℕ, List, [], ◌∷◌, Option, Some, None, Contains, ap, refl, subst, sym}
-use Rattle.gz_names.specs.Zones.{HasZone, zones_in}
+use Rattle.gz_names.specs.Zones.{zones_in}
 use Rattle.gz_names.specs.declared.names.Name.{Name}
 use Rattle.gz_names.specs.declared.zone_sets.ZoneSet.{ZoneSet}
 use Rattle.colour_defs.specs.Closure.{Closure, from}
-use Rattle.colour_defs.specs.Graph.{GraphState, IsInZones}
+use Rattle.colour_defs.specs.Graph.{IsInZones}
 use Rattle.colour_defs.specs.Lawful as lawful
 use Rattle.colour_defs.specs.Lawful.{IsOver, IsRunning, IsUnfinished}
 use Rattle.colour_defs.specs.World.{BlackClosure, Has, IsPresent, World, marking_of}
-use Rattle.colour_defs.proofs.Carried.{present_closed}
 use Rattle.colour_defs.proofs.Lists.{nothing_in_none}
-use Rattle.colour_defs.proofs.ZoneSets.{zones_in-has}
-use Rattle.judge.specs.Represents.{IsAtStage, IsCollected, IsPrepared, Represents, zones_of_groups}
+use Rattle.judge.specs.Represents.{IsAtStage, Represents, zones_of_groups}
 use Rattle.judge.specs.Stages as judged
 use Rattle.judge.specs.Stages.{HasGroups, IsBlackSoFar, Shown, Stage, Stops, collecting, idle, preparing, unfinished_in}
-use Rattle.judge.specs.Walks.{IsFoundBlack, Walks}
+use Rattle.judge.specs.Walks.{IsFoundBlack}
 use Rattle.judge.proofs.LiveCommands.{reached_in}
-use Rattle.judge.proofs.NameSets.{set_has, set_of, zones_none}
+use Rattle.judge.proofs.NameSets.{set_has, set_of}
 use Rattle.judge.proofs.StandsFor.{IsFor, cell_of, present_of, reached_through}
 
 module _ (s t : Shown) (w : World) (f : IsFor s w) (zones : ZoneSet) (st : Stops w.graph s zones t)
@@ -131,22 +129,27 @@ module _ (s t : Shown) (w : World) (f : IsFor s w) (zones : ZoneSet) (st : Stops
 
   is_started : (n : Name) → IsStart n → Contains st.blackens.starts n
   is_started n k = let here = starts_present n k in
-      (st.blackens.starts_are n).1 (cell_of s w f.represents n here, elim k [
-        | inl b ↦ inr ((so_far_now n here).1 b)
-        | inr p ↦ inl ((in_zones n).1 p.1)
-      ])
+      (st.blackens.starts_are n).1 (
+        cell_of s w f.represents n here,
+        elim k [
+          | inl b ↦ inr ((so_far_now n here).1 b)
+          | inr p ↦ inl ((in_zones n).1 p.1)
+        ],
+      )
 
   black_now : (x : Name) → Has stopped_world.black x
       ↔ (Closure w.graph (λ n. lawful.IsBlackSoFar w n ⊎ (IsPresent w n × IsInZones w.graph (zones_in zones) n)) x
       × IsPresent w x)
   black_now x = (
     λ b. let r = reached_through w.graph (Contains st.blackens.starts) IsStart (λ n c. from (started n c))
-        ((st.blackens.done.all x).0 ((set_has t.black.names x).0 b)) in
-        (r, reached_in w.graph IsStart (IsPresent w) starts_present (record {
-          edges = f.valid.presence.edges;
-          values = f.valid.presence.entries;
-          keys = f.valid.presence.keys;
-        }) r),
+        ((st.blackens.done.all x).0 ((set_has t.black.names x).0 b)) in (
+          r,
+          reached_in w.graph IsStart (IsPresent w) starts_present (record {
+            edges = f.valid.presence.edges;
+            values = f.valid.presence.entries;
+            keys = f.valid.presence.keys;
+          }) r,
+        ),
     λ h. (set_has t.black.names x).1 ((st.blackens.done.all x).1
         (reached_through w.graph IsStart (Contains st.blackens.starts) (λ n k. from (is_started n k)) h.0)),
   )

@@ -1,16 +1,15 @@
 -- As an arena is swept, the judge stands for a world in which this came lawfully.
-use Rattle.std.proofs.Common.{◌≡◌, ◌≢◌, ◌+◌, ◌⊎◌, ◌↔◌, ◌∙◌, inl, inr, ℕ, Bool, true, false, cond, List, [], ◌∷◌, Option, Some, None}
-use Rattle.std.proofs.Common.{Contains, ap, eqb, eqb-true, eq-eqb, map, not, refl, subst, sym}
+use Rattle.std.proofs.Common.{◌≡◌, ◌≢◌, ◌+◌, ◌⊎◌, ◌↔◌, ◌∙◌, inl, inr, ℕ, Bool, true, false, cond, List, [], ◌∷◌}
+use Rattle.std.proofs.Common.{Contains, ap, eqb, eqb-true, eq-eqb, not, refl, subst, sym}
 use Rattle.std.specs.List.{filter}
 use Rattle.gz_names.specs.declared.names.Name.{Name}
-use Rattle.gz_names.specs.declared.zone_sets.ZoneSet.{ZoneSet}
 use Rattle.colour_defs.specs.Ends.{Lists}
 use Rattle.colour_defs.specs.Lawful.{IsLawfulSweep, with_sweep}
 use Rattle.colour_defs.specs.Units.{Tally}
 use Rattle.colour_defs.specs.World.{World}
 use Rattle.colour_defs.proofs.Lists.{contains_cases, contains_head, contains_tail, nothing_in_none}
-use Rattle.judge.specs.Represents.{AreWaiting, HasFirstBlack, HasFound, IsAtStage, IsCollected, IsPrepared, IsAtRest, Represents}
-use Rattle.judge.specs.Stages.{IsSettled, Shown, Stage, Sweeps, collecting, idle, preparing}
+use Rattle.judge.specs.Represents.{AreWaiting, IsAtStage, Represents}
+use Rattle.judge.specs.Stages.{Shown, Stage, Sweeps, collecting, idle, preparing}
 use Rattle.judge.specs.Whites.{whites_in}
 use Rattle.judge.proofs.StandsFor.{IsFor}
 
@@ -140,12 +139,15 @@ module _ (s t : Shown) (w : World) (f : IsFor s w) (arena : ℕ) (freed : List N
     groups_are = c.groups_are;
     tally_is = ap (λ (n : Tally). record n { sweeps = n.sweeps + 1 }) c.tally_is;
     none_out = λ none. absurd (some_out (c.none_out none));
-    found = λ left. let h = c.found left in (h.0, record {
-      walks_are = h.1.walks_are;
-      former_is = h.1.former_is;
-      black_are = h.1.black_are;
-      live_are = h.1.live_are;
-    });
+    found = λ left. let h = c.found left in (
+      h.0,
+      record {
+        walks_are = h.1.walks_are;
+        former_is = h.1.former_is;
+        black_are = h.1.black_are;
+        live_are = h.1.live_are;
+      },
+    );
     first = λ none. absurd (some_out (c.none_out none));
   }
 

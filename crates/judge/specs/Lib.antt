@@ -23,4 +23,5 @@ pub mod Replies
 pub mod Verdicts
 pub mod Represents
 pub mod Transcripts
+pub mod Endings
 pub mod Positions
