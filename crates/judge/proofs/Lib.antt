@@ -83,6 +83,14 @@ pub mod Slicing
 pub mod OneOrder
 pub mod OneDump
 pub mod Listing
+pub mod UnitsLeft
+pub mod LineKinds
+pub mod SameGroups
+pub mod Reported
+pub mod Answered
+pub mod Resetting
+pub mod LastLine
+pub mod Refuting
 pub mod Spending
 pub mod Accepting
 pub mod Answering
