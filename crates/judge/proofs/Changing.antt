@@ -19,7 +19,7 @@ use Rattle.judge.specs.Positions.{StandsIn}
 use Rattle.judge.specs.Represents.{HasFound}
 use Rattle.judge.specs.Represents.{LiesInPlace}
 use Rattle.judge.specs.Stages.{Changes, IsSettled, Shown, Stage}
-use Rattle.judge.specs.Stages.{WakesAny, preparing}
+use Rattle.judge.specs.Stages.{WakesAny}
 use Rattle.judge.specs.Walks.{IsFoundBlack, IsFoundLive, Walks}
 use Rattle.judge.specs.declared.former.Change.{Change}
 use Rattle.judge.proofs.LeadsOn.{LeadsOn}

@@ -29,7 +29,7 @@ use Rattle.judge.proofs.LeadsOn.{command_on}
 abbrev pub counted : GraphState → GraphCmd → Collection → Tally
 counted g c k = with_woken g k.zones (woken_by g c) (with_put g k.zones c k.tally)
 
-counted_is : (g : GraphState) (c : GraphCmd) (o : Option Collection)
+pub counted_is : (g : GraphState) (c : GraphCmd) (o : Option Collection)
     → with_counts g c o ≡ changed (counted g c) (λ k. k.woken) o
 counted_is g c None = refl
 counted_is g c (Some k) = refl
@@ -49,7 +49,7 @@ target_there w ok (Some (Wrap c n)) s r e t =
     let made : IsMade w.graph (Wrap c n) = ok.made (Wrap c n) there in
     subst (λ y. IsPresent w y) (cc t) (ok.presence.edges (Wrap c n) (Cell n) there (refl, made.2))
 
-also_there : (w : World) → IsValid w → (c : GraphCmd) (s : Name) → also_woken_by w.graph c ≡ Some s → IsPresent w s
+pub also_there : (w : World) → IsValid w → (c : GraphCmd) (s : Name) → also_woken_by w.graph c ≡ Some s → IsPresent w s
 also_there w ok cmd.Zone s e = absurd (cc e)
 also_there w ok (cmd.Comp z) s e = absurd (cc e)
 also_there w ok (cmd.New r c n) s e = absurd (cc e)

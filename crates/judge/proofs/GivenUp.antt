@@ -3,7 +3,7 @@ use Rattle.std.proofs.Common.{◌≡◌, ◌∙◌, ◌⊎◌, inl, inr, ℕ, ze
 use Rattle.std.proofs.Common.{[], ◌∷◌, length, set, Option, None, refl, sym, ap, arith, eqb, eqb-true, eq-eqb}
 use Rattle.std.specs.List.{list_any}
 use Rattle.colour_defs.specs.Compaction.{given_up_from}
-use Rattle.judge.specs.Arenas.{owners_of}
+use Rattle.judge.specs.Slots.{owners_of}
 use Rattle.judge.specs.declared.arenas.Arena.{Arena}
 
 -- none is given up

@@ -10,7 +10,7 @@ use Rattle.colour_defs.proofs.Lists.{nothing_in_none}
 use Rattle.plain_graph.specs.Indexed.{order_of}
 use Rattle.plain_graph.proofs.Indexes.{order_itself}
 use Rattle.plain_graph.proofs.Walks.{take_cases, take_new, take_old}
-use Rattle.judge.specs.Cells.{Cells, LetsGo, Removes}
+use Rattle.judge.specs.Cells.{Cells, LetsGo}
 use Rattle.judge.proofs.Cells.{apart}
 
 none_both : (b : Bool) (o : Option Place) → o ≡ None → cond b None o ≡ None
@@ -21,19 +21,20 @@ pub lets_none : (cells : Cells) → LetsGo [] cells cells
 lets_none cells = record { gone = λ x c. absurd (nothing_in_none x c); stay = λ x n. refl }
 
 pub lets_more : (old mid new : Cells) (names : List Name) (i : ℕ) (d : Name) → i < length names
-    → LetsGo (take i names) old mid → Removes mid (get_or names i d) new → LetsGo (take (i + 1) names) old new
+    → LetsGo (take i names) old mid → tree.Updates order_of mid new (get_or names i d) None
+    → LetsGo (take (i + 1) names) old new
 lets_more old mid new names i d below goes up = record { gone = gone; stay = stay }
   where
     gone : (x : Name) → Contains (take (i + 1) names) x → tree.get order_of new x ≡ None
     gone x c = elim (take_cases names i d x below c) [
-      | inl o ↦ up x ∙ none_both (is_eq (order_of (get_or names i d) x)) (tree.get order_of mid x) (goes.gone x o)
-      | inr e ↦ up x ∙ ap (λ b. cond b None (tree.get order_of mid x))
+      | inl o ↦ up.0 x ∙ none_both (is_eq (order_of (get_or names i d) x)) (tree.get order_of mid x) (goes.gone x o)
+      | inr e ↦ up.0 x ∙ ap (λ b. cond b None (tree.get order_of mid x))
           (ap (λ z. is_eq (order_of z x)) e ∙ order_itself x)
     ]
 
     stay : (x : Name) → (Contains (take (i + 1) names) x → ⊥) → tree.get order_of new x ≡ tree.get order_of old x
     stay x n =
-        up x ∙ ap (λ b. cond b None (tree.get order_of mid x))
+        up.0 x ∙ ap (λ b. cond b None (tree.get order_of mid x))
         (apart (get_or names i d) x (λ e. n (take_new names i d x below e)))
         ∙ goes.stay x (λ o. n (take_old names i d x below o))
 

@@ -26,7 +26,7 @@ places_exact = exact_pairs nat_cmp nat_cmp exact_unsigned exact_unsigned
 pub place_ties : (p q : Place) → is_eq (place_order p q) ≡ true → p ≡ q
 place_ties p q e = tells_apart places_exact p q e
 
-place_itself : (p : Place) → is_eq (place_order p p) ≡ true
+pub place_itself : (p : Place) → is_eq (place_order p p) ≡ true
 place_itself p = ap is_eq (tied_itself places_total p)
 
 -- what lies in these arenas of the cells that were looked at; the others are left

@@ -1,29 +1,25 @@
 -- Whose the arenas are, and which are out.
-use Rattle.std.proofs.Common.{◌≡◌, ◌∙◌, ◌↔◌, ◌⊎◌, inl, inr, ℕ, ◌+◌, ◌<◌, ◌≤◌, Bool, true, false, cond, List, [], ◌∷◌}
+use Rattle.std.proofs.Common.{◌≡◌, ◌∙◌, ◌↔◌, inl, inr, ℕ, ◌+◌, ◌<◌, ◌≤◌, Bool, true, false, cond, List, [], ◌∷◌}
 use Rattle.std.proofs.Common.{◌++◌, length, get_or, drop, map, reverse, set, Option, Some, None, refl, sym, ap, subst}
-use Rattle.std.proofs.Common.{arith, Contains, IsTrue}
+use Rattle.std.proofs.Common.{arith, IsTrue}
 use Rattle.std.specs.Prelude.{nat_eq, slice_get}
 use Rattle.std.specs.BTreeMap as tree
 use Rattle.std.specs.List.{list_any}
 use Rattle.std.specs.Option.{option_map}
-use Rattle.std.specs.Ordering.{is_eq}
 use Rattle.std.proofs.Math.Seq.{map-set_same}
 use Rattle.std.proofs.lemmas.List.{drop-map, drop_more, reverse-append, length-map}
 use Rattle.std.proofs.lemmas.Option.{slice_get-get_or, slice_get-map}
 use Rattle.gz_names.specs.Zones.{HasZone, zones_in}
-use Rattle.gz_names.specs.declared.names.Name.{Name}
-use Rattle.gz_names.specs.declared.numbers.Place.{Place}
 use Rattle.gz_names.specs.declared.zone_sets.ZoneSet.{ZoneSet}
 use Rattle.colour_defs.specs.Ends.{arenas_from}
-use Rattle.colour_defs.specs.Graph.{GraphState, is_among, zone_of}
+use Rattle.colour_defs.specs.Graph.{GraphState, is_among}
+use Rattle.colour_defs.specs.World.{IsPlaceFor}
 use Rattle.colour_defs.proofs.Lists.{get_push_here}
 use Rattle.colour_defs.proofs.Membership.{among_from, among_to}
 use Rattle.colour_defs.proofs.ZoneSets.{zones_in-has}
 use Rattle.plain_graph.specs.Indexed.{order_of}
-use Rattle.plain_graph.proofs.Indexes.{order_ties}
-use Rattle.judge.specs.Arenas.{Grows, owner_of, owners_of}
-use Rattle.judge.specs.Cells.{Cells}
-use Rattle.judge.specs.Places.{IsFree}
+use Rattle.judge.specs.Slots.{owner_of, owners_of}
+use Rattle.judge.specs.Cells.{Cells, HasCell}
 use Rattle.judge.specs.Stages.{LiesIn, Shown}
 use Rattle.judge.specs.declared.arenas.Arena.{Arena}
 
@@ -115,83 +111,34 @@ from_none owners n zones rest none = ap (λ os. arenas_from n os zones ++ rest) 
 
 -- where cells lie
 pub lies_same : (g : GraphState) (s t : Shown) → t.owners ≡ s.owners → t.cells ≡ s.cells → LiesIn g s t
-lies_same g s t owners cells = record {
-  grows = inl owners;
-  kept = λ x p is. inl (subst (λ (cs : Cells). tree.get order_of cs x ≡ Some p) cells is);
-  free = λ x p is. inl (subst (λ (cs : Cells). tree.get order_of cs x ≡ Some p) cells is);
-  owned = λ x p is. inl (subst (λ (cs : Cells). tree.get order_of cs x ≡ Some p) cells is);
-}
+lies_same g s t owners cells = inr (cells, owners)
 
 pub lies_after : (g : GraphState) (old mid new : Shown) → mid.owners ≡ old.owners → mid.cells ≡ old.cells
     → mid.out ≡ old.out → LiesIn g mid new → LiesIn g old new
-lies_after g old mid new owners cells out l = record {
-  kept = λ x p is. elim (l.kept x p is) [
-    | inl was ↦ inl (subst (λ (cs : Cells). tree.get order_of cs x ≡ Some p) cells was)
-    | inr kept ↦ inr (subst (λ (os : List ℕ). Contains os p.0 → ⊥) out kept)
-  ];
-  grows = subst (λ (os : List (Option ℕ)). Grows os new.owners) owners l.grows;
-  free = λ x p is. elim (l.free x p is) [
-    | inl was ↦ inl (subst (λ (cs : Cells). tree.get order_of cs x ≡ Some p) cells was)
-    | inr free ↦ inr (subst (λ (cs : Cells). IsFree cs p) cells free)
-  ];
-  owned = λ x p is. elim (l.owned x p is) [
-    | inl was ↦ inl (subst (λ (cs : Cells). tree.get order_of cs x ≡ Some p) cells was)
-    | inr made ↦ inr made
-  ];
-}
+lies_after g old mid new owners cells out (inr l) = inr (l.0 ∙ cells, l.1 ∙ owners)
+lies_after g old mid new owners cells out (inl l) = inl (record {
+  name = l.name;
+  zone = l.zone;
+  place = l.place;
+  of = l.of;
+  fresh = λ h. l.fresh (subst (λ (cs : Cells). HasCell cs l.name) (sym cells) h);
+  updates = subst (λ (cs : Cells). tree.Updates order_of cs new.cells l.name (Some l.place)) cells l.updates;
+  lies = λ w laid. l.lies w (record {
+    owners_are = laid.owners_are ∙ sym owners;
+    out_is = laid.out_is ∙ sym out;
+    places_are = λ x. laid.places_are x ∙ ap (λ (cs : Cells). tree.get order_of cs x) (sym cells);
+  });
+})
 
 pub lies_before : (g : GraphState) (old mid new : Shown) → new.owners ≡ mid.owners → new.cells ≡ mid.cells
     → LiesIn g old mid → LiesIn g old new
-lies_before g old mid new owners cells l = record {
-  grows = subst (λ (os : List (Option ℕ)). Grows old.owners os) (sym owners) l.grows;
-  kept = λ x p is. l.kept x p (subst (λ (cs : Cells). tree.get order_of cs x ≡ Some p) cells is);
-  free = λ x p is. l.free x p (subst (λ (cs : Cells). tree.get order_of cs x ≡ Some p) cells is);
-  owned = λ x p is. elim (l.owned x p (subst (λ (cs : Cells). tree.get order_of cs x ≡ Some p) cells is)) [
-    | inl was ↦ inl was
-    | inr (z, of, at) ↦ inr (z, of, ap (λ (os : List (Option ℕ)). slice_get os p.0) owners ∙ at)
-  ];
-}
-
--- a name gets a place in an arena of its zone
-pub record GetsPlace (g : GraphState) (old new : Shown) (x : Name) (z : ℕ) (p : Place) : Type 0 where
-  pub of : zone_of g x ≡ Some z
-  pub grows : Grows old.owners new.owners
-  pub owned : slice_get new.owners p.0 ≡ Some (Some z)
-  pub updates : tree.Updates order_of old.cells new.cells x (Some p)
-  pub free : IsFree old.cells p
-  pub kept : Contains old.out p.0 → ⊥
-
-pub lies_made : (g : GraphState) (old new : Shown) (x : Name) (z : ℕ) (p : Place) → GetsPlace g old new x z p
-    → LiesIn g old new
-lies_made g old new x z p gets = record {
-  grows = gets.grows;
-  kept = λ y q is. elim (again y q is (is_eq (order_of x y)) refl) [
-    | inl same ↦ inr (λ c. gets.kept (subst (λ (r : Place). Contains old.out r.0) (sym same) c))
-    | inr was ↦ inl was
-  ];
-  free = λ y q is. elim (again y q is (is_eq (order_of x y)) refl) [
-    | inl same ↦ inr (subst (λ (r : Place). IsFree old.cells r) same gets.free)
-    | inr was ↦ inl was
-  ];
-  owned = λ y q is. go y q is (is_eq (order_of x y)) refl;
-}
-  where
-    again : (y : Name) (q : Place) → tree.get order_of new.cells y ≡ Some q → (b : Bool) → is_eq (order_of x y) ≡ b
-        → (p ≡ q) ⊎ (tree.get order_of old.cells y ≡ Some q)
-    again y q is true e =
-        let has : tree.get order_of new.cells y ≡ Some p =
-        gets.updates.0 y ∙ ap (λ b. cond b (Some p) (tree.get order_of old.cells y)) e in inl (cc (has, is))
-    again y q is false e = inr (sym (gets.updates.2 y e) ∙ is)
-
-    go : (y : Name) (q : Place) → tree.get order_of new.cells y ≡ Some q → (b : Bool) → is_eq (order_of x y) ≡ b
-        → (tree.get order_of old.cells y ≡ Some q)
-        ⊎ ((u : ℕ) × (zone_of g y ≡ Some u) × (slice_get new.owners q.0 ≡ Some (Some u)))
-    go y q is true e =
-        let has : tree.get order_of new.cells y ≡ Some p =
-        gets.updates.0 y ∙ ap (λ b. cond b (Some p) (tree.get order_of old.cells y)) e in
-        let same : p ≡ q = cc (has, is) in inr (
-          z,
-          ap (zone_of g) (sym (order_ties x y e)) ∙ gets.of,
-          ap (λ (r : Place). slice_get new.owners r.0) (sym same) ∙ gets.owned,
-        )
-    go y q is false e = inl (sym (gets.updates.2 y e) ∙ is)
+lies_before g old mid new owners cells (inr l) = inr (cells ∙ l.0, owners ∙ l.1)
+lies_before g old mid new owners cells (inl l) = inl (record {
+  name = l.name;
+  zone = l.zone;
+  place = l.place;
+  of = l.of;
+  fresh = l.fresh;
+  updates = subst (λ (cs : Cells). tree.Updates order_of old.cells cs l.name (Some l.place)) (sym cells) l.updates;
+  lies = λ w laid. subst (λ (os : List (Option ℕ)). IsPlaceFor w l.zone l.place os) (sym owners) (l.lies w laid);
+})

@@ -1,6 +1,6 @@
 -- What holds of a call's result that is returned as it is.
 use Rattle.std.proofs.Common.{◌≡◌, Bool, true, false, not, refl, Result, Ok, Err, Option, Some, None, IfOk, subst}
-use Rattle.std.specs.Prelude.{IfNone, IfSome, MatchOption, OnOk, is_some}
+use Rattle.std.specs.Prelude.{IfNone, IfSome, MatchOption, OnErr, OnOk, is_err, is_some}
 
 -- two clauses together
 pub both_ok : {X E : Type 0} (r : Result X E) (P Q R : X → Type 0) → ((x : X) → P x → Q x → R x) → IfOk r P → IfOk r Q
@@ -76,3 +76,12 @@ match_none (Some x) A P e p = absurd (cc e)
 pub none_is : {X P : Type 0} (o : Option X) → o ≡ None → IfNone o P → P
 none_is None e p = p
 none_is (Some x) e p = absurd (cc e)
+
+-- what is known of a result that is an error, and of one that is none
+pub err_is : {X E P : Type 0} (r : Result X E) → is_err r ≡ true → OnErr r P → P
+err_is (Ok x) e p = absurd (cc e)
+err_is (Err f) e p = p
+
+pub ok_is : {X E P : Type 0} (r : Result X E) → is_err r ≡ false → OnOk r P → P
+ok_is (Ok x) e p = p
+ok_is (Err f) e p = absurd (cc e)

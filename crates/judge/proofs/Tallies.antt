@@ -15,7 +15,7 @@ use Rattle.gz_names.specs.declared.numbers.Place.{Place}
 use Rattle.colour_defs.specs.Graph.{GraphState, is_among, is_in_zones}
 use Rattle.colour_defs.specs.World.{is_wrapper}
 use Rattle.colour_defs.specs.Units.{Tally}
-use Rattle.judge.specs.Arenas.{owner_of, owners_of}
+use Rattle.judge.specs.Slots.{owner_of, owners_of}
 use Rattle.judge.specs.declared.arenas.Arena.{Arena}
 use Rattle.judge.specs.Bounds.{arena_count, with_cells}
 

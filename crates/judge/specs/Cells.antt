@@ -1,8 +1,7 @@
 -- Which cells are present: those that commands make, until the group of their zone ends.
-use Rattle.std.specs.Prelude.{◌≡◌, ℕ, List, Option, Some, None, Contains, IsSome, if◌then◌else◌}
+use Rattle.std.specs.Prelude.{◌≡◌, ℕ, List, Option, Some, None, Contains, IsSome}
 use Rattle.std.specs.BTreeMap as tree
 use Rattle.std.specs.BTreeMap.{BTreeMap}
-use Rattle.std.specs.Ordering.{is_eq}
 use Rattle.gz_names.specs.Zones.{zones_in}
 use Rattle.gz_names.specs.declared.names.Name.{Name}
 use Rattle.gz_names.specs.declared.names.Name.TheVariants.{Cell, Wrap}
@@ -119,11 +118,6 @@ HasShade g zones black live x shade.White = IsWhiteBy g zones live x
 pub record HasColours (g : GraphState) (cells : Cells) (black live : List Name) (end : GroupEnd) : Type 0 where
   pub grays : Lists (λ x. HasCell cells x × IsGrayBy g (zones_in end.zones) black live x) end.grays.items
   pub whites : Lists (λ x. HasCell cells x × IsWhiteBy g (zones_in end.zones) live x) end.whites.items
-
--- one name is present no longer
-abbrev pub Removes : Cells → Name → Cells → Type 0
-Removes old x new = (y : Name) → tree.get order_of new y
-    ≡ (if is_eq (order_of x y) then None else tree.get order_of old y)
 
 -- these names are present no longer, and every other one stays where it is
 pub record LetsGo (names : List Name) (old new : Cells) : Type 0 where

@@ -7,7 +7,7 @@ pub mod Places
 pub mod Weak
 pub mod Cells
 pub mod Whites
-pub mod OutArenas
+pub mod Slots
 pub mod Arenas
 pub mod Starts
 pub mod LeftOut
@@ -23,4 +23,5 @@ pub mod Replies
 pub mod Verdicts
 pub mod Represents
 pub mod Transcripts
+pub mod Endings
 pub mod Positions

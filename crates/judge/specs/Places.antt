@@ -1,5 +1,5 @@
 -- Where the present cells lie.
-use Rattle.std.specs.Prelude.{◌≡◌, Some}
+use Rattle.std.specs.Prelude.{◌≡◌, Some, None}
 use Rattle.std.specs.BTreeMap as tree
 use Rattle.std.specs.BTreeMap.{BTreeMap}
 use Rattle.std.specs.declared.cmp.Ordering.{Ordering}
@@ -16,11 +16,13 @@ place_order = (place_ord.ghosts).cmp
 abbrev pub Lying : Type 0
 Lying = BTreeMap Place Name
 
--- no cell has a place in which it does not lie
-abbrev pub AreLaid : BTreeMap Name Place → Lying → Type 0
-AreLaid places lying =
-    (x : Name) (p : Place) → tree.get order_of places x ≡ Some p → (tree.get place_order lying p ≡ Some x → ⊥) → ⊥
+-- no cell lies in a place
+abbrev pub IsEmpty : Lying → Place → Type 0
+IsEmpty lying p = tree.get place_order lying p ≡ None
 
--- no cell has this place
-abbrev pub IsFree : BTreeMap Name Place → Place → Type 0
-IsFree places p = (x : Name) → tree.get order_of places x ≡ Some p → ⊥
+-- a cell lies in the place that it has, and no other cell lies anywhere
+pub record AreLaid (places : BTreeMap Name Place) (lying : Lying) : Type 0 where
+  pub there : (x : Name) (p : Place) → tree.get order_of places x ≡ Some p
+      → (tree.get place_order lying p ≡ Some x → ⊥) → ⊥
+  pub back : (x : Name) (p : Place) → tree.get place_order lying p ≡ Some x
+      → (tree.get order_of places x ≡ Some p → ⊥) → ⊥

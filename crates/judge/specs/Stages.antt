@@ -1,8 +1,9 @@
 -- How far a collection is, by its zones, its groups and the arenas that are out; and what a report makes of it.
-use Rattle.std.specs.Prelude.{◌≡◌, ◌↔◌, ℕ, ◌+◌, ◌<◌, ◌^◌, List, [], ◌∷◌, ◌++◌, Bool, true, false, reverse, slice_get, Option}
+use Rattle.std.specs.Prelude.{◌≡◌, ◌↔◌, ℕ, ◌+◌, ◌<◌, ◌^◌, List, [], ◌∷◌, ◌++◌, Bool, true, false, reverse, Option}
 use Rattle.std.specs.Prelude.{Some, None, Vec, Contains, IsTrue, ◌⊎◌, ⊤, map, replicate}
 use Rattle.std.specs.BTreeMap as tree
 use Rattle.std.specs.BTreeSet.{BTreeSet}
+use Rattle.std.specs.FinMap as fin
 use Rattle.std.specs.declared.alloc.Global.{Global}
 use Rattle.gz_names.specs.Zones.{HasZone, zones_in}
 use Rattle.gz_names.specs.declared.zone_sets.ZoneSet.{ZoneSet}
@@ -17,15 +18,15 @@ use Rattle.colour_defs.specs.Ends.{Lists, arenas_from}
 use Rattle.colour_defs.specs.Graph.{GraphState, IsInZones, empty_graph, zone_of}
 use Rattle.colour_defs.specs.Step.{refusal_in, step_of, with_register}
 use Rattle.colour_defs.specs.Units.{MeetsUnitBound, Tally, sweeps_in, unit_limit, with_put, with_woken}
+use Rattle.colour_defs.specs.World as defs
 use Rattle.colour_defs.specs.World.{woken_by}
 use Rattle.trace_lang.specs.Texts.{report_text, told_text}
-use Rattle.judge.specs.Arenas.{Grows, owners_in}
+use Rattle.judge.specs.Arenas.{owners_in}
 use Rattle.judge.specs.Cells.{Cells, Colours, GivesPlaces, HasCell, IsGray, IsWhite, wakes, wakes_also, woken_in}
 use Rattle.judge.specs.LeftOut.{GrowsLeft, IsEither}
 use Rattle.judge.specs.Former.{IsFormer, Keeps, Releases, Takes}
 use Rattle.judge.specs.Bounds.{IsFirstTally, is_accepted, marking_tally, put_if, tally_of, with_sweep, with_units}
 use Rattle.judge.specs.Parts.{AreParts}
-use Rattle.judge.specs.Places.{IsFree}
 use Rattle.judge.specs.Groups.{AreAllowed, AreRefused, Forming}
 use Rattle.judge.specs.Starts.{IsBegun, IsListOf}
 use Rattle.plain_graph.specs.Indexed.{order_of}
@@ -157,17 +158,26 @@ BlackensLeft g idle P old new = new ≡ old
 BlackensLeft g (preparing zones) P old new = GrowsLeft g zones P old new
 BlackensLeft g (collecting zones marking groups) P old new = new ≡ old
 
--- an arena may be made, and a name that gets a place lies in an arena of its zone that is not out, where no other cell
--- lies
-pub record LiesIn (g : GraphState) (old new : Shown) : Type 0 where
-  pub grows : Grows old.owners new.owners
-  pub kept : (x : Name) (p : Place) → tree.get order_of new.cells x ≡ Some p
-      → (tree.get order_of old.cells x ≡ Some p) ⊎ (Contains old.out p.0 → ⊥)
-  pub free : (x : Name) (p : Place) → tree.get order_of new.cells x ≡ Some p
-      → (tree.get order_of old.cells x ≡ Some p) ⊎ IsFree old.cells p
-  pub owned : (x : Name) (p : Place) → tree.get order_of new.cells x ≡ Some p
-      → (tree.get order_of old.cells x ≡ Some p)
-      ⊎ ((z : ℕ) × (zone_of g x ≡ Some z) × (slice_get new.owners p.0 ≡ Some (Some z)))
+-- a world of the definitions in which the arenas are the same, and the same cells lie in the same places
+pub record IsLaidAs (s : Shown) (w : defs.World) : Type 0 where
+  pub owners_are : w.owner ≡ s.owners
+  pub out_is : w.out ≡ s.out
+  pub places_are : (x : Name) → fin.get w.places x ≡ tree.get order_of s.cells x
+
+-- a name gets a place, where the definitions put it in each such world: in the lowest free slot of its zone, or where
+-- there is none in the first slot of a new arena
+pub record GetsPlace (g : GraphState) (old new : Shown) : Type 0 where
+  pub name : Name
+  pub zone : ℕ
+  pub place : Place
+  pub of : zone_of g name ≡ Some zone
+  pub fresh : HasCell old.cells name → ⊥
+  pub updates : tree.Updates order_of old.cells new.cells name (Some place)
+  pub lies : (w : defs.World) → IsLaidAs old w → defs.IsPlaceFor w zone place new.owners
+
+-- a name gets a place, or each cell lies where it lay and no arena is made
+abbrev pub LiesIn : GraphState → Shown → Shown → Type 0
+LiesIn g old new = GetsPlace g old new ⊎ ((new.cells ≡ old.cells) × (new.owners ≡ old.owners))
 
 -- what a command counts for by its reply, if it puts an entry while a collection marks or sweeps; and what a name that
 -- is woken then counts for

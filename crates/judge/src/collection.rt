@@ -8,7 +8,7 @@ ghost use Rattle.colour_defs.specs.Ends.{Lists, arenas_from};
 ghost use Rattle.colour_defs.specs.Graph.{GraphState, register_cell, slot_cell};
 ghost use Rattle.plain_graph.specs.Reach.{Follows, IsDone};
 ghost use Rattle.judge.specs.Arenas.{AreSameArenas, owners_in};
-ghost use Rattle.judge.specs.Cells.{Cells, HasCell, HasColours, HasShade, IsGrayBy, IsWhiteBy, LetsGo, Removes};
+ghost use Rattle.judge.specs.Cells.{Cells, HasCell, HasColours, HasShade, IsGrayBy, IsWhiteBy, LetsGo};
 ghost use Rattle.judge.specs.Bounds.{tally_of, with_sweep};
 ghost use Rattle.judge.specs.Edges.{Leads, sources_of};
 ghost use Rattle.judge.specs.Former.{Releases};
@@ -513,7 +513,7 @@ impl World {
         ensures tally { OnOk result (self.new.tally ≡ self.old.tally) }
     {
         self.whites = Whites::of_names(self.alloc, &self.places, end.whites.as_slice())?;
-        self.let_go(end.whites.as_slice())?;
+        self.let_go(end.whites.as_slice());
         self.told = self
             .weak
             .lose(self.alloc, &self.places, end.whites.as_slice())?;
@@ -523,40 +523,20 @@ impl World {
     }
 
     // White cells are no longer present.
-    fn let_go(&mut self, whites: &[Name]) -> Result<(), NoMemory>
-        ensures phase { OnOk result (self.new.phase ≡ self.old.phase) }
-        ensures former { OnOk result (self.new.former ≡ self.old.former) }
-        ensures black { OnOk result (self.new.black ≡ self.old.black) }
-        ensures arenas { OnOk result (AreSameArenas self.old.arenas self.new.arenas) }
-        ensures whites { OnOk result (self.new.whites ≡ self.old.whites) }
-        ensures places { OnOk result (LetsGo whites.now self.old.places self.new.places) }
-        ensures weak { OnOk result (self.new.weak ≡ self.old.weak) }
-        ensures told { OnOk result (self.new.told ≡ self.old.told) }
-        ensures tally { OnOk result (self.new.tally ≡ self.old.tally) }
+    fn let_go(&mut self, whites: &[Name])
+        ensures phase { self.new.phase ≡ self.old.phase }
+        ensures former { self.new.former ≡ self.old.former }
+        ensures black { self.new.black ≡ self.old.black }
+        ensures arenas { AreSameArenas self.old.arenas self.new.arenas }
+        ensures whites { self.new.whites ≡ self.old.whites }
+        ensures places { LetsGo whites.now self.old.places self.new.places }
+        ensures weak { self.new.weak ≡ self.old.weak }
+        ensures told { self.new.told ≡ self.old.told }
+        ensures tally { self.new.tally ≡ self.old.tally }
     {
         for name in whites {
-            self.let_one_go(*name)?;
+            lift(&mut self.places, &mut self.arenas, *name);
         }
-        Ok(())
-    }
-
-    // A white cell is no longer present.
-    fn let_one_go(&mut self, name: Name) -> Result<(), NoMemory>
-        ensures phase { OnOk result (self.new.phase ≡ self.old.phase) }
-        ensures former { OnOk result (self.new.former ≡ self.old.former) }
-        ensures black { OnOk result (self.new.black ≡ self.old.black) }
-        ensures arenas { OnOk result (AreSameArenas self.old.arenas self.new.arenas) }
-        ensures whites { OnOk result (self.new.whites ≡ self.old.whites) }
-        ensures places { OnOk result (Removes self.old.places name self.new.places) }
-        ensures weak { OnOk result (self.new.weak ≡ self.old.weak) }
-        ensures told { OnOk result (self.new.told ≡ self.old.told) }
-        ensures tally { OnOk result (self.new.tally ≡ self.old.tally) }
-    {
-        let Some(place) = lift(&mut self.places, &mut self.lying, name) else {
-            return Ok(());
-        };
-        self.arenas.take_back(place);
-        Ok(())
     }
 
     // The first group that has not ended ends.

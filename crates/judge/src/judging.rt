@@ -6,7 +6,8 @@ ghost use Rattle.colour_defs.specs.Graph.{empty_graph};
 ghost use Rattle.judge.specs.Sound.{IsSound};
 ghost use Rattle.judge.specs.Stages.{IsFirst, shown};
 ghost use Rattle.judge.specs.Replies.{IsUnmarked, Steps, due_as, marked, nothing};
-ghost use Rattle.judge.specs.Verdicts.{EndsBy, HasVerdict, IsFirstWrong, IsSaid, IsVerdictOn, wrong_text};
+ghost use Rattle.judge.specs.Endings.{EndsBy, HasVerdict, wrong_text};
+ghost use Rattle.judge.specs.Verdicts.{IsFirstWrong, IsSaid, IsVerdictOn};
 ghost use Rattle.trace_lang.specs.Grammar.{Spells};
 
 use crate::answers::{Awaited, begin_answer, judge_line};

@@ -1,62 +1,68 @@
 // Where the present cells lie, by their names and by their places. No two of them lie in one place.
-ghost use Rattle.std.specs.Prelude.{◌≡◌, None, OnOk, Some};
+ghost use Rattle.std.specs.Prelude.{◌≡◌, ◌<◌, None, OnOk, Some, length};
 ghost use Rattle.std.specs.BTreeMap.{Updates, get};
 ghost use Rattle.gz_names.specs.declared.names.Name.{Name as AName};
 ghost use Rattle.plain_graph.specs.Indexed.{order_of};
-ghost use Rattle.judge.specs.Places.{IsFree, AreLaid};
+ghost use Rattle.judge.specs.Arenas.{AreSameArenas};
+ghost use Rattle.judge.specs.Places.{AreLaid, IsEmpty};
 
+use crate::arenas::Arenas;
 use gz_names::{Name, NoMemory, Place};
 use std::alloc::AllocError;
 use std::collections::BTreeMap;
 
-/// A cell gets a place, in which none lies.
+/// A cell that has no place gets one, in which none lies.
 pub fn lay(
     places: &mut BTreeMap<Name, Place>,
-    lying: &mut BTreeMap<Place, Name>,
+    arenas: &mut Arenas,
     name: Name,
     place: Place,
 ) -> Result<(), NoMemory>
+    requires absent { get order_of places.old name ≡ None }
+    requires made { place.0 < length arenas.old.arenas.items }
+    requires empty { IsEmpty arenas.old.lying place }
+    ensures arenas { AreSameArenas arenas.old arenas.new }
     ensures updates { OnOk result (Updates order_of places.old places.new name (Some place)) }
-    ensures free { OnOk result (AreLaid places.old lying.old → IsFree places.old place) }
-    ensures laid { AreLaid places.old lying.old → AreLaid places.new lying.new }
+    ensures laid { AreLaid places.old arenas.old.lying → AreLaid places.new arenas.new.lying }
 {
-    if lying.contains_key(&place) {
+    arenas.occupy(place, name)?;
+    if places.insert(name, place).is_err() {
+        arenas.vacate(place);
         return Err(AllocError);
     }
-    lying.insert(place, name)?;
-    places.insert(name, place)?;
     Ok(())
 }
 
-/// A cell lies nowhere from here on; this was its place, if it had one.
-pub fn lift(
-    places: &mut BTreeMap<Name, Place>,
-    lying: &mut BTreeMap<Place, Name>,
-    name: Name,
-) -> Option<Place>
-    ensures value { result ≡ get order_of places.old name }
+/// A cell lies nowhere from here on.
+pub fn lift(places: &mut BTreeMap<Name, Place>, arenas: &mut Arenas, name: Name)
+    ensures arenas { AreSameArenas arenas.old arenas.new }
     ensures updates { Updates order_of places.old places.new name None }
-    ensures laid { AreLaid places.old lying.old → AreLaid places.new lying.new }
+    ensures laid { AreLaid places.old arenas.old.lying → AreLaid places.new arenas.new.lying }
 {
-    let place = places.remove(&name)?;
-    lying.remove(&place);
-    Some(place)
+    if let Some(place) = places.remove(&name) {
+        arenas.vacate(place);
+    }
 }
 
 /// A cell goes to another place, in which none lies.
 pub fn shift(
     places: &mut BTreeMap<Name, Place>,
-    lying: &mut BTreeMap<Place, Name>,
+    arenas: &mut Arenas,
     name: Name,
     place: Place,
 ) -> Result<(), NoMemory>
+    ensures arenas { AreSameArenas arenas.old arenas.new }
     ensures updates { OnOk result (Updates order_of places.old places.new name (Some place)) }
-    ensures laid { AreLaid places.old lying.old → AreLaid places.new lying.new }
+    ensures laid { AreLaid places.old arenas.old.lying → AreLaid places.new arenas.new.lying }
 {
     let Some(was) = places.get(&name).copied() else {
         return Err(AllocError);
     };
-    lay(places, lying, name, place)?;
-    lying.remove(&was);
+    if !arenas.is_empty(place) {
+        return Err(AllocError);
+    }
+    arenas.occupy(place, name)?;
+    places.insert(name, place)?;
+    arenas.vacate(was);
     Ok(())
 }

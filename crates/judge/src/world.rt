@@ -76,10 +76,8 @@ pub struct World {
     pub alloc: Global,
     pub former: Former,
     pub places: BTreeMap<Name, Place>,
-    /// The cells by their places.
-    pub lying: BTreeMap<Place, Name>,
-    ghost laid: { AreLaid places lying },
     pub arenas: Arenas,
+    ghost laid: { AreLaid places arenas.lying },
     /// The white cells of groups that have ended, until they are swept.
     pub whites: Whites,
     /// What is black; it counts while no zone is marking, and none is being prepared.
@@ -106,7 +104,6 @@ impl World {
             alloc,
             former: Former::new(alloc),
             places: BTreeMap::new(alloc),
-            lying: BTreeMap::new(alloc),
             arenas: Arenas::new(alloc),
             whites: Whites::new(alloc),
             black: Walk::new(alloc),
@@ -347,9 +344,8 @@ impl World {
         let Some(zone) = graph.zone_of(name) else {
             return Ok(());
         };
-        let place = self.arenas.give(zone)?;
-        lay(&mut self.places, &mut self.lying, name, place)?;
-        Ok(())
+        let place = self.arenas.place_for(zone)?;
+        lay(&mut self.places, &mut self.arenas, name, place)
     }
 
     // What a command counts for.
@@ -467,8 +463,7 @@ impl World {
                 return Err(AllocError);
             };
             next += 1;
-            self.arenas.occupy(place);
-            shift(&mut self.places, &mut self.lying, *name, place)?;
+            shift(&mut self.places, &mut self.arenas, *name, place)?;
         }
         Ok(())
     }

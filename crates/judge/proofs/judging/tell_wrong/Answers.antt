@@ -1,6 +1,7 @@
 use Rattle.std.proofs.Common.{◌≡◌, ◌∙◌, ℕ, inl, inr, List, Option, subst, sym}
 use Rattle.std.specs.Io.KnownBytes.{Appends}
-use Rattle.judge.specs.Verdicts.{EndsBy, IsFirstWrong, wrong_text}
+use Rattle.judge.specs.Endings.{EndsBy, wrong_text}
+use Rattle.judge.specs.Verdicts.{IsFirstWrong}
 use Rattle.judge.specs.declared.judging.JudgeEnd.{JudgeEnd}
 use Rattle.judge.specs.declared.judging.JudgeEnd.TheVariants as end
 use Rattle.judge.proofs.Ends.{Wrote, fault_rose, no_read_fault}

@@ -1,6 +1,6 @@
 use Rattle.std.proofs.Common.{◌≡◌, ◌≤◌, take}
 use Rattle.gz_names.specs.Zones.{zones_in}
-use Rattle.judge.specs.Arenas.{owners_of}
+use Rattle.judge.specs.Slots.{owners_of}
 use Rattle.judge.specs.Bounds.{arena_count}
 use Rattle.judge.proofs.arenas.Arenas.count.Given as goal
 

@@ -16,6 +16,7 @@ loop-number-preserved c =
           ∙ ap (given_up_from 0 owners) (sym (drop_more numbers i _ c.loop-number-test.true))
           ∙ c.loop-number.invariant.owners;
       out = c.give_one_up.ensures.out ∙ c.loop-number.invariant.out;
+      lying = c.give_one_up.ensures.lying ∙ c.loop-number.invariant.lying;
     }
 
 pub returns-clause-owners : goal.returns-clause-owners

@@ -8,4 +8,5 @@ invariant-loop-number l = record {
   owners : given_up_from 0 (owners_in l.self) (drop l.number-index l.numbers)
       ≡ given_up_from 0 (owners_in l.fn.self) l.numbers;
   out : l.self.out.items ≡ l.fn.self.out.items;
+  lying : l.self.lying ≡ l.fn.self.lying;
 }

@@ -1,8 +1,8 @@
-use Rattle.judge.proofs.Flags.{flags_out}
 use Rattle.std.proofs.Common.{◌∙◌, ap, refl, sym}
 use Rattle.std.proofs.Math.Seq.{map-set_same}
-use Rattle.judge.specs.Arenas.{owner_of}
+use Rattle.judge.specs.Slots.{owner_of}
 use Rattle.judge.proofs.Owners.{goes_out, stays_in}
+use Rattle.judge.proofs.Slots.{kept_out}
 use Rattle.judge.proofs.arenas.Arenas.hand_one_out.Goals as goal
 
 pub returns-then-not-is_of-clause-out : goal.returns-then-not-is_of-clause-out
@@ -33,6 +33,7 @@ returns-clause-owners c =
 
 pub invariant_of-self-2 : goal.invariant_of-self-2
 invariant_of-self-2 c = record {
-  flagged = flags_out c.args.self.now.arenas.items c.args.number _ c.args.self.now.out.items c.push.new.self.items
-      c.requires refl c.in_ok-push.ensures.items c.args.self.now.flagged;
+  kept = kept_out c.args.self.now.arenas.items c.args.self.now.out.items c.push.new.self.items c.args.self.now.lowest
+      c.args.self.now.lying c.args.number c.index_mut.result.now _ c.index_mut.ensures.value c.requires refl refl refl
+      c.in_ok-push.ensures.items c.args.self.now.kept;
 }

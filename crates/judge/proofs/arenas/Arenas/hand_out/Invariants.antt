@@ -11,4 +11,5 @@ invariant-loop-back l = record {
   out : reverse l.self.out.items
       ≡ arenas_from (l.count - l.back) (drop (l.count - l.back) (owners_in l.fn.self)) (zones_in l.zones)
       ++ reverse l.fn.self.out.items;
+  lying : l.self.lying ≡ l.fn.self.lying;
 }

@@ -26,12 +26,12 @@ returns-clause-places c =
     let same : c.settle.new.self.places ≡ mid =
     c.settle.ensures.places ∙ ap (λ (w : World). w.places) c.end_first.ensures.rest in
     on_ok_known c.settle.result (subst (λ (cells : Cells). LetsGo names old cells) (sym same)
-    (subst (λ (ns : List Name). LetsGo ns old mid) c.as_slice-2.ensures.value c.in_ok-let_go.ensures.places))
+    (subst (λ (ns : List Name). LetsGo ns old mid) c.as_slice-2.ensures.value c.let_go.ensures.places))
 
 pub returns-clause-settles : goal.returns-clause-settles
 returns-clause-settles c =
     let rest = c.end_first.ensures.rest in
-    let went = c.in_ok-let_go.ensures in
+    let went = c.let_go.ensures in
     let former = ap (λ (w : World). w.former) rest ∙ went.former in
     let black = ap (λ (w : World). w.black) rest ∙ went.black in
     let walks = c.end_first.ensures.walks ∙ ap walks_of went.phase in
@@ -47,7 +47,7 @@ pub returns-clause-owners : goal.returns-clause-owners
 returns-clause-owners c =
     on_ok_known c.settle.result (ap owners_in c.settle.ensures.arenas
     ∙ ap (λ (w : World). owners_in w.arenas) c.end_first.ensures.rest ∙ c.in_ok-hand_out.ensures.owners
-    ∙ c.in_ok-let_go.ensures.arenas.owners)
+    ∙ c.let_go.ensures.arenas.owners)
 
 pub returns-clause-out : goal.returns-clause-out
 returns-clause-out c =
@@ -56,23 +56,23 @@ returns-clause-out c =
     on_ok_known c.settle.result (ap (λ (a : Arenas). reverse a.out.items) c.settle.ensures.arenas
     ∙ ap (λ (w : World). reverse w.arenas.out.items) c.end_first.ensures.rest ∙ c.in_ok-hand_out.ensures.out
     ∙ ap (λ (os : List (Option ℕ)). arenas_from 0 os zones ++ reverse mid.out.items)
-    c.in_ok-let_go.ensures.arenas.owners
+    c.let_go.ensures.arenas.owners
     ∙ ap (λ (xs : List ℕ). arenas_from 0 (owners_in c.args.self.now.arenas) zones ++ reverse xs)
-    c.in_ok-let_go.ensures.arenas.out)
+    c.let_go.ensures.arenas.out)
 
 pub returns-clause-whites : goal.returns-clause-whites
 returns-clause-whites c =
     let cells = c.args.self.now.places in
     let kept = c.in_ok-self.field-0 in
     let same = c.settle.ensures.whites ∙ ap (λ (w : World). w.whites) c.end_first.ensures.rest
-    ∙ c.in_ok-let_go.ensures.whites in
+    ∙ c.let_go.ensures.whites in
     on_ok_known c.settle.result (subst (λ (ws : Whites). AreByArena cells c.args.end.now.whites.items ws) (sym same)
     (subst (λ (ns : List Name). AreByArena cells ns kept) c.as_slice.ensures.value c.in_ok-self.ensures))
 
 pub returns-clause-tally : goal.returns-clause-tally
 returns-clause-tally c =
     on_ok_weaker c.settle.result (λ e. e ∙ ap (λ (w : World). w.tally) c.end_first.ensures.rest
-    ∙ c.in_ok-let_go.ensures.tally) c.settle.ensures.tally
+    ∙ c.let_go.ensures.tally) c.settle.ensures.tally
 
 pub returns-clause-slots : goal.returns-clause-slots
 returns-clause-slots c =
@@ -81,7 +81,7 @@ returns-clause-slots c =
     c.settle.ensures.places ∙ ap (λ (w : World). w.places) c.end_first.ensures.rest in
     let weak = c.settle.ensures.weak ∙ ap (λ (w : World). w.weak) c.end_first.ensures.rest in
     on_ok_known c.settle.result (ap (λ (w : WeakNames). w.slots) weak ∙ c.in_ok-self-2.ensures.slots
-    ∙ ap (λ (w : WeakNames). map (if_present mid) w.slots) c.in_ok-let_go.ensures.weak
+    ∙ ap (λ (w : WeakNames). map (if_present mid) w.slots) c.let_go.ensures.weak
     ∙ ap (λ (cells : Cells). map (if_present cells) c.args.self.now.weak.slots) (sym same))
 
 pub returns-clause-watched : goal.returns-clause-watched
@@ -92,7 +92,7 @@ returns-clause-watched c =
     let names = c.in_ok-self-2.field-0 in
     on_ok_known c.settle.result (unwatched_as before c.lose.new.self c.settle.new.self.weak names
     c.settle.new.self.told (ap (λ (w : WeakNames). w.watched) weak) told
-    (subst (λ (w : WeakNames). AreUnwatched w names c.lose.new.self) c.in_ok-let_go.ensures.weak
+    (subst (λ (w : WeakNames). AreUnwatched w names c.lose.new.self) c.let_go.ensures.weak
     c.in_ok-self-2.ensures.watched))
 
 pub returns-clause-told : goal.returns-clause-told
@@ -100,4 +100,4 @@ returns-clause-told c =
     let told = c.settle.ensures.told ∙ ap (λ (w : World). w.told) c.end_first.ensures.rest in
     on_ok_known c.settle.result (told ∙ c.in_ok-self-2.ensures.told
     ∙ ap (λ (ns : List Name). filter (is_watched c.let_go.new.self.weak) ns) c.as_slice-3.ensures.value
-    ∙ ap (λ (w : WeakNames). filter (is_watched w) c.args.end.now.whites.items) c.in_ok-let_go.ensures.weak)
+    ∙ ap (λ (w : WeakNames). filter (is_watched w) c.args.end.now.whites.items) c.let_go.ensures.weak)

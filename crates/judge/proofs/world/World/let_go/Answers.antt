@@ -17,19 +17,19 @@ loop-name-init c = record {
 
 pub loop-name-preserved : goal.loop-name-preserved
 loop-name-preserved c = record {
-  phase = c.in_ok-let_one_go.ensures.phase ∙ c.loop-name.invariant.phase;
-  former = c.in_ok-let_one_go.ensures.former ∙ c.loop-name.invariant.former;
-  black = c.in_ok-let_one_go.ensures.black ∙ c.loop-name.invariant.black;
-  whites = c.in_ok-let_one_go.ensures.whites ∙ c.loop-name.invariant.whites;
+  phase = c.loop-name.invariant.phase;
+  former = c.loop-name.invariant.former;
+  black = c.loop-name.invariant.black;
+  whites = c.loop-name.invariant.whites;
   arenas = record {
-    owners = c.in_ok-let_one_go.ensures.arenas.owners ∙ c.loop-name.invariant.arenas.owners;
-    out = c.in_ok-let_one_go.ensures.arenas.out ∙ c.loop-name.invariant.arenas.out;
+    owners = c.lift.ensures.arenas.owners ∙ c.loop-name.invariant.arenas.owners;
+    out = c.lift.ensures.arenas.out ∙ c.loop-name.invariant.arenas.out;
   };
-  tally = c.in_ok-let_one_go.ensures.tally ∙ c.loop-name.invariant.tally;
-  weak = c.in_ok-let_one_go.ensures.weak ∙ c.loop-name.invariant.weak;
-  told = c.in_ok-let_one_go.ensures.told ∙ c.loop-name.invariant.told;
-  places = lets_more _ c.loop-name.self.places c.let_one_go.new.self.places c.args.whites.now c.loop-name.name-index _
-      c.loop-name-test.true c.loop-name.invariant.places c.in_ok-let_one_go.ensures.places;
+  tally = c.loop-name.invariant.tally;
+  weak = c.loop-name.invariant.weak;
+  told = c.loop-name.invariant.told;
+  places = lets_more _ c.loop-name.self.places c.lift.new.places c.args.whites.now c.loop-name.name-index _
+      c.loop-name-test.true c.loop-name.invariant.places c.lift.ensures.updates;
 }
 
 pub returns-clause-places : goal.returns-clause-places
