@@ -91,6 +91,8 @@ pub mod Answered
 pub mod Resetting
 pub mod LastLine
 pub mod Refuting
+pub mod Unmarked
+pub mod Leading
 pub mod Spending
 pub mod Accepting
 pub mod Answering
