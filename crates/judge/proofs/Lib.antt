@@ -95,6 +95,7 @@ pub mod Unmarked
 pub mod Leading
 pub mod OneReading
 pub mod Completeness
+pub mod Concluding
 pub mod Spending
 pub mod Accepting
 pub mod Answering

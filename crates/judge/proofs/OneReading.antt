@@ -15,7 +15,7 @@ ends_once xs ys zs l m a b (inr e) (inl f) =
     absurd (lacks_not 10 m zs (subst (λ t. Lacks 10 t) (sym e.0 ∙ f) a))
 ends_once xs ys zs l m a b (inr e) (inr f) = (sym e.0 ∙ f.0, e.2 ∙ sym f.2)
 
-never_ends : (ys l : List ℕ) → EndsLine [] ys l → ⊥
+pub never_ends : (ys l : List ℕ) → EndsLine [] ys l → ⊥
 never_ends ys [] (inl e) = cc e
 never_ends ys (x ∷ l) (inl e) = cc e
 never_ends ys [] (inr e) = let some = e.1 in omega (arith, some)

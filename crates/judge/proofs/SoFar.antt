@@ -173,20 +173,3 @@ judged_so_far input n rest due j = let r = reached places_new input j.judged in 
   has = r.has;
   so_far = so_far r.lines j.graph j.shows due r.up_to;
 }
-
--- how a transcript ends that is lawful so far
-pub cut_within : (input : List ℕ) → IsCut input → EndsWithin input
-cut_within input (n, due, j, some) =
-    let l = judged_so_far input n [] due j in record { lines = l.lines; has = l.has; so_far = l.so_far }
-
-pub bad_unread : (input : List ℕ) (n : ℕ) → IsFirstBad input n → IsFirstUnread input n
-bad_unread input n (before, due, line, is, next, bad) =
-    let l = judged_so_far input before next.rest due next.before in record {
-      before = l.lines;
-      line = line;
-      rest = next.more;
-      has = has_more input l.lines next.rest next.more line l.has next.one next.ends;
-      number = is ∙ ap (λ k. k + 1) l.number;
-      so_far = l.so_far;
-      bad = bad;
-    }

@@ -1,8 +1,7 @@
 -- Lawful transcripts, by the definitions: behind each line of a trace, which is marked, the lines of a lawful answer to
 -- its command. A transcript is the list of its lines. `IsLawful` says that such a list is lawful from the first world on,
 -- `IsLawfulSoFar` that its answers are lawful and the last one has begun lawfully, `IsNoStart` that no lawful transcript
--- begins so. Sound and complete: a judge that finds a transcript lawful is right; and where it finds a line wrong, no
--- lawful transcript begins with the lines up to this one.
+-- begins so.
 use Rattle.std.specs.Prelude.{◌≡◌, ◌⊎◌, ℕ, ◌+◌, ◌<◌, ◌^◌, List, [], ◌∷◌, ◌++◌, map, length, codes, ⊤}
 use Rattle.std.specs.List.{flat_map}
 use Rattle.gz_io.specs.Lines.{EndsLine}
@@ -19,7 +18,6 @@ use Rattle.trace_lang.specs.Grammar.{Spells}
 use Rattle.trace_lang.specs.Texts.{name_words, reply_text, report_text}
 use Rattle.judge.specs.Lines.{IsOneLine}
 use Rattle.judge.specs.Replies.{marked}
-use Rattle.judge.specs.Verdicts.{IsFirstWrong, IsJudgedWhole}
 
 -- the line that tells watched cells, behind that of a group's end; none where none died
 abbrev pub told_lines : List Name → List (List ℕ)
@@ -170,11 +168,3 @@ pub record IsFirstUnlawful (input : List ℕ) (n : ℕ) : Type 0 where
   pub number : n ≡ length before + 1
   pub so_far : IsLawfulSoFar before
   pub none : IsNoStart (before ++ line ∷ [])
-
--- soundness: what is judged whole is lawful; and lines that are judged are lawful so far
-abbrev pub IsSoundJudge : Type 0
-IsSoundJudge = (input : List ℕ) → IsJudgedWhole input → IsLawfulInput input
-
--- completeness: a line that is found wrong is wrong
-abbrev pub IsCompleteJudge : Type 0
-IsCompleteJudge = (input : List ℕ) (n : ℕ) → IsFirstWrong input n → IsFirstUnlawful input n

@@ -3,7 +3,7 @@ use Rattle.std.proofs.KnownBytes.{Appends-nil}
 use Rattle.judge.specs.Verdicts.{IsVerdictOn}
 use Rattle.judge.specs.declared.judging.Verdict.{Verdict}
 use Rattle.judge.proofs.Ends.{fault_rose, lawful_written, no_read_fault}
-use Rattle.judge.proofs.SoFar.{bad_unread, cut_within}
+use Rattle.judge.proofs.Concluding.{bad_unread, cut_within}
 use Rattle.judge.proofs.judging.tell.Goals as goal
 
 pub returns-in-Lawful-clause-verdict : goal.returns-in-Lawful-clause-verdict
