@@ -1,27 +1,25 @@
 -- A line of an answer with units, in a lawful transcript: where the judge takes it, it stands for the world after it.
-use Rattle.std.proofs.Common.{◌≡◌, ◌≢◌, ◌∙◌, ◌⊎◌, inl, inr, ℕ, ◌+◌, ◌<◌, ◌≤◌, ◌^◌, Bool, true, false, List, [], ◌∷◌, ◌++◌}
-use Rattle.std.proofs.Common.{Option, Some, None, Contains, codes, drop, refl, sym, ap, subst, arith}
+use Rattle.std.proofs.Common.{◌≡◌, ◌∙◌, inl, inr, ℕ, ◌+◌, Bool, true, false, List, [], ◌∷◌, ◌++◌}
+use Rattle.std.proofs.Common.{Option, codes, drop, refl, sym, ap, subst, arith}
 use Rattle.std.specs.Fmt.{decimal}
 use Rattle.std.proofs.lemmas.Fmt.{decimal_injective}
 use Rattle.gz_names.specs.declared.names.Name.{Name}
 use Rattle.gz_names.specs.declared.replies.Report.{Report}
 use Rattle.gz_names.specs.declared.replies.Report.TheVariants as report
-use Rattle.gz_names.specs.declared.replies.Reply.TheVariants as reply
 use Rattle.colour_defs.specs.Graph.{GraphState}
 use Rattle.colour_defs.specs.Units.{Tally}
 use Rattle.colour_defs.specs.World.{World}
 use Rattle.colour_defs.proofs.Lists.{nothing_in_none}
-use Rattle.trace_lang.specs.Texts.{name_words, reply_text, report_text, told_text}
-use Rattle.judge.specs.Bounds.{with_units}
-use Rattle.judge.specs.Positions.{AreLeft, EndsUnits, HasCounted, IsBefore, IsInUnits, IsLeftOfUnits, StandsBetween, StandsIn}
-use Rattle.judge.specs.Replies.{Counts, Due, IsAnswered, IsLast, IsUncounted, nothing, units as units_due}
+use Rattle.trace_lang.specs.Texts.{name_words, report_text, told_text}
+use Rattle.judge.specs.Positions.{AreLeft, EndsUnits, HasCounted, IsBefore, IsInUnits, StandsBetween}
+use Rattle.judge.specs.Replies.{Counts, Due, IsAnswered, IsLast, units as units_due}
 use Rattle.judge.specs.Sound.{IsSound}
 use Rattle.judge.specs.Stages.{IsReportedLine, IsToldLine, Shown}
-use Rattle.judge.specs.Transcripts.{lines_of_report, told_lines}
+use Rattle.judge.specs.Transcripts.{told_lines}
 use Rattle.judge.proofs.Asked.{still_not_over}
 use Rattle.judge.proofs.Lawfulness.{laws_spent}
-use Rattle.judge.proofs.LineKinds.{not_collected, not_slice, told_not_collected, told_not_slice}
-use Rattle.judge.proofs.Reported.{IsAfter, first_of, lines_first, reported, told_of}
+use Rattle.judge.proofs.LineKinds.{not_collected, not_slice}
+use Rattle.judge.proofs.Reported.{first_of, lines_first, reported, told_of}
 use Rattle.judge.proofs.Reweak.{represents_told}
 use Rattle.judge.proofs.Spending.{represents_spent, spent_in}
 use Rattle.judge.proofs.UnitsLeft.{DoneNext, LastNext, NextLeft, ReportNext, done_next, last_next, next_left, report_next}
@@ -80,9 +78,10 @@ module _ (g : GraphState) (old new : Shown) (most : Option ℕ) (collects : Bool
   pub told_next : (x : Name) (xs : List Name) → old.told ≡ x ∷ xs
       → (line ≡ codes "told" ++ name_words (x ∷ xs)) × (lines ≡ is.left)
   told_next x xs e =
-      let all = is.lines_are ∙ ap (λ t. told_lines t ++ is.left) e in
-      (head_is line (codes "told" ++ name_words (x ∷ xs)) lines is.left all,
-      tail_is line (codes "told" ++ name_words (x ∷ xs)) lines is.left all)
+      let all = is.lines_are ∙ ap (λ t. told_lines t ++ is.left) e in (
+        head_is line (codes "told" ++ name_words (x ∷ xs)) lines is.left all,
+        tail_is line (codes "told" ++ name_words (x ∷ xs)) lines is.left all,
+      )
 
   told_step : (x : Name) (xs : List Name) (more : ℕ) → old.told ≡ x ∷ xs → new ≡ record old { told = [] }
       → Counts reports line more → IsInUnits g new most collects more lines

@@ -25,9 +25,9 @@ use Rattle.judge.proofs.NewPlaces.{places_new}
 use Rattle.judge.specs.Positions.{AreLeft, IsBefore, KeepsLaws, StandsBetween}
 use Rattle.judge.specs.Replies.{Asks, AsksUnwatch, AsksWatch, AsksWeak, Due, IsUnmarked, graph_after_weak}
 use Rattle.judge.specs.Replies.{reply as reply_due}
-use Rattle.judge.specs.Represents.{LiesInPlace, Represents}
+use Rattle.judge.specs.Represents.{Represents}
 use Rattle.judge.specs.Sound.{IsSound}
-use Rattle.judge.specs.Stages.{Obeys, Shown, TakesNamed}
+use Rattle.judge.specs.Stages.{Shown, TakesNamed}
 use Rattle.judge.specs.Transcripts.{Answer, HasSmallNumber, IsLawfulFrom, lines_of_answer, lines_of_reply, lines_of_reports}
 use Rattle.judge.specs.Weak.{weak_slot}
 use Rattle.judge.proofs.Commanded.{represents_command}
@@ -101,7 +101,7 @@ module _ (old new : Shown) (w v : World) (answer : Answer) (more : List (List â„
       â†’ AreLeft (step_of w.graph c).0 new due (lines_of_answer answer ++ more)
   asked_graph c next asks sound =
       let obeys = asks.1 in
-      let then = represents_command c answer.1 old new w v between.stands obeys 
+      let then = represents_command c answer.1 old new w v between.stands obeys
       (places_new (change.Command c) (step_of w.graph c).0 (wakes w.graph c) (wakes_also w.graph c) old new obeys.changes)
       next.lawful.1 in
       let laws = laws_then (command.Graph c) (step_of w.graph c).0 next then.graph_is (command_sizes w.graph c) in

@@ -1,10 +1,7 @@
 -- A line that the judge finds wrong is one with which no lawful transcript begins that goes on as the lines before it do.
-use Rattle.std.proofs.Common.{◌≡◌, ◌≢◌, ◌∙◌, ◌⊎◌, inl, inr, ℕ, ◌+◌, List, [], ◌∷◌, ◌++◌, length, map, refl, sym, ap, subst}
-use Rattle.std.proofs.Common.{append_assoc, arith}
+use Rattle.std.proofs.Common.{◌≡◌, ◌∙◌, inl, inr, ℕ, ◌+◌, List, [], ◌∷◌, ◌++◌, length, refl, sym, ap, subst}
+use Rattle.std.proofs.Common.{append_assoc}
 use Rattle.gz_io.specs.Lines.{EndsLine}
-use Rattle.gz_names.specs.declared.commands.Cmd.{Cmd}
-use Rattle.gz_names.specs.declared.dumps.DumpLine.{DumpLine}
-use Rattle.gz_names.specs.declared.replies.Report.{Report}
 use Rattle.gz_names.specs.declared.replies.Reply.TheVariants as reply
 use Rattle.colour_defs.specs.Graph.{GraphState, empty_graph}
 use Rattle.colour_defs.specs.World.{first_world}
@@ -14,12 +11,12 @@ use Rattle.trace_lang.specs.Grammar.{Spells}
 use Rattle.trace_lang.specs.Texts.{reply_text}
 use Rattle.judge.specs.Lines.{IsOneLine}
 use Rattle.judge.specs.Positions.{AreLeft, IsBefore}
-use Rattle.judge.specs.Replies.{Due, Judged, Steps, answered, asked, dump, graph_after, marked, none, nothing}
+use Rattle.judge.specs.Replies.{Due, Judged, Steps, answered, asked, dump, graph_after, none, nothing}
 use Rattle.judge.specs.Replies.{reply as reply_due, resets, units as units_due}
 use Rattle.judge.specs.Sound.{IsSound}
 use Rattle.judge.specs.Stages.{IsFirst, Shown}
-use Rattle.judge.specs.Transcripts.{HasLines, IsLawful, IsLawfulFrom, IsNoStart, dump_line, lines_of_reports, told_lines}
-use Rattle.judge.specs.Verdicts.{HasJudged, IsBadLine, IsFirstWrong, IsWrongLine}
+use Rattle.judge.specs.Transcripts.{HasLines, IsLawful, IsLawfulFrom, IsNoStart, lines_of_reports, told_lines}
+use Rattle.judge.specs.Verdicts.{IsBadLine, IsWrongLine}
 use Rattle.judge.proofs.FirstWorld.{represents_first}
 use Rattle.judge.proofs.Leading.{lawful_next, left_right, left_steps}
 use Rattle.judge.proofs.LiveRuns.{first_live}

@@ -1,16 +1,16 @@
 -- What a verdict says of the transcript, by the definitions.
-use Rattle.std.proofs.Common.{◌≡◌, ◌≢◌, ◌∙◌, ◌⊎◌, inl, inr, ℕ, ◌+◌, List, [], ◌∷◌, ◌++◌, Option, length, refl, sym, ap}
-use Rattle.std.proofs.Common.{subst, arith}
+use Rattle.std.proofs.Common.{◌≡◌, ◌∙◌, ℕ, ◌+◌, List, [], ◌∷◌, ◌++◌, Option, refl, sym, ap}
+use Rattle.std.proofs.Common.{subst}
 use Rattle.std.proofs.lemmas.List.{append-nil}
-use Rattle.colour_defs.specs.Graph.{GraphState}
 use Rattle.judge.specs.Endings.{EndsBy, EndsWithin, IsFirstUnread, MayEndLawful}
 use Rattle.judge.specs.Positions.{AreLeft}
-use Rattle.judge.specs.Replies.{Due, nothing}
-use Rattle.judge.specs.Transcripts.{HasLines, IsFirstUnlawful, IsLawful, IsLawfulInput, IsNoStart}
+use Rattle.judge.specs.Replies.{Due}
+use Rattle.judge.specs.Transcripts.{HasLawfulLines, HasLines, IsFirstUnlawful, IsLawful, IsLawfulInput, IsNoStart}
 use Rattle.judge.specs.Verdicts.{HasJudged, IsCut, IsFirstBad, IsFirstWrong}
 use Rattle.judge.specs.declared.judging.JudgeEnd.{JudgeEnd}
 use Rattle.judge.specs.declared.judging.JudgeEnd.TheVariants as end
 use Rattle.judge.proofs.Completeness.{bad_none, judged_left, some_left, wrong_none}
+use Rattle.judge.proofs.LawfulBytes.{lawful_lines}
 use Rattle.judge.proofs.OneReading.{lines_begin, lines_same, never_ends}
 use Rattle.judge.proofs.SoFar.{AreLawfulLines, judged_so_far}
 use Rattle.judge.proofs.Transcribing.{has_more}
@@ -66,7 +66,7 @@ cut_within input (n, due, j, some) =
 
 -- a lawful transcript is found to be one
 not_begun : (input : List ℕ) (lines : List (List ℕ)) (rest : List ℕ) → HasLines input lines rest → IsNoStart lines
-    → IsLawfulInput input → ⊥
+    → HasLawfulLines input → ⊥
 not_begun input lines rest has none (all, whole, lawful) =
     let r = lines_begin input lines all rest has whole in
     none r.0 (subst IsLawful r.1 lawful)
@@ -75,17 +75,18 @@ pub lawful_ends : (input : List ℕ) (old new : Option (List ℕ)) (r : JudgeEnd
     → IsLawfulInput input → MayEndLawful r
 lawful_ends input old new end.Lawful e lawful = tt
 lawful_ends input old new (end.Unlawful n) e lawful =
-    not_begun input (e.0.before ++ e.0.line ∷ []) e.0.rest e.0.has e.0.none lawful
+    not_begun input (e.0.before ++ e.0.line ∷ []) e.0.rest e.0.has e.0.none (lawful_lines input lawful)
 lawful_ends input old new end.Cut e lawful =
-    let r = lines_begin input e.0.lines lawful.0 [] e.0.has lawful.1 in
+    let all = lawful_lines input lawful in
+    let r = lines_begin input e.0.lines all.0 [] e.0.has all.1 in
     e.0.unfinished (subst IsLawful (r.1 ∙ ap (λ zs. e.0.lines ++ zs) (nothing_more r.0 r.2) ∙ append-nil e.0.lines)
-    lawful.2)
+    all.2)
   where
     nothing_more : (zs : List (List ℕ)) → HasLines [] zs [] → zs ≡ []
     nothing_more [] has = refl
     nothing_more (z ∷ zs) (more, one, ends, tail) = absurd (never_ends more z ends)
 lawful_ends input old new (end.BadLine n) e lawful =
-    not_begun input (e.0.before ++ e.0.line ∷ []) e.0.rest e.0.has e.0.none lawful
+    not_begun input (e.0.before ++ e.0.line ∷ []) e.0.rest e.0.has e.0.none (lawful_lines input lawful)
 lawful_ends input old new end.ReadFault e lawful = tt
 lawful_ends input old new end.WriteFault e lawful = tt
 lawful_ends input old new end.NoMemory e lawful = tt

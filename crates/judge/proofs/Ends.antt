@@ -6,6 +6,7 @@ use Rattle.judge.specs.Endings.{EndsBy}
 use Rattle.judge.specs.Verdicts.{IsJudgedWhole}
 use Rattle.judge.specs.declared.judging.JudgeEnd.{JudgeEnd}
 use Rattle.judge.specs.declared.judging.JudgeEnd.TheVariants as end
+use Rattle.judge.proofs.LawfulBytes.{lawful_bytes}
 use Rattle.judge.proofs.NewPlaces.{places_new}
 use Rattle.judge.proofs.Soundness.{sound_judge}
 
@@ -19,9 +20,9 @@ pub lawful_written : (input : List ℕ) (result : JudgeEnd) (old new : Option (L
     → IsJudgedWhole input → Wrote result end.Lawful old new (codes "lawful\n") before after
     → EndsBy input old new result
 lawful_written input result old new before after j (inl (is, done)) =
-    subst (λ r. EndsBy input old new r) (sym is) (sound_judge places_new input j, done)
+    subst (λ r. EndsBy input old new r) (sym is) (lawful_bytes input (sound_judge places_new input j), done)
 lawful_written input result old new before after j (inr (is, front, rose)) =
-    subst (λ r. EndsBy input old new r) (sym is) (codes "lawful\n", inl (sound_judge places_new input j, refl), front)
+    subst (λ r. EndsBy input old new r) (sym is) (codes "lawful\n", inl (lawful_bytes input (sound_judge places_new input j), refl), front)
 
 -- only a sink that failed ends it by a failed write, and no write ends it by a failed read
 pub fault_rose : (result said : JudgeEnd) (old new : Option (List ℕ)) (text : List ℕ) (before after : ℕ)

@@ -1,17 +1,15 @@
 -- The last line of a lawful slice is no wrong one: its units keep the bound.
-use Rattle.std.proofs.Common.{◌≡◌, ◌∙◌, ◌⊎◌, inl, inr, ℕ, ◌+◌, ◌<◌, ◌≤◌, ◌^◌, Bool, true, false, List, [], Option, Some, None}
-use Rattle.std.proofs.Common.{is_some, refl, sym, ap, subst, arith}
+use Rattle.std.proofs.Common.{◌≡◌, ◌∙◌, inl, inr, ℕ, ◌≤◌, Bool, true, false, List, [], Option, Some, None}
+use Rattle.std.proofs.Common.{is_some, refl, ap, subst, arith}
 use Rattle.gz_names.specs.declared.replies.Report.{Report}
-use Rattle.gz_names.specs.declared.replies.Reply.TheVariants as reply
 use Rattle.colour_defs.specs.Graph.{GraphState}
 use Rattle.colour_defs.specs.Lawful.{HasTally, IsOver as IsOverIn, with_spent, with_spent_preparing}
-use Rattle.colour_defs.specs.Units.{MeetsUnitBound, Tally, sweeps_in, unit_limit}
-use Rattle.colour_defs.specs.World.{Collection, IsIdle, Preparation, World, first_tally}
-use Rattle.trace_lang.specs.Texts.{reply_text}
+use Rattle.colour_defs.specs.Units.{MeetsUnitBound, Tally, unit_limit}
+use Rattle.colour_defs.specs.World.{Collection, IsIdle, Preparation, World}
 use Rattle.judge.specs.Bounds.{with_units}
 use Rattle.judge.specs.Positions.{EndsUnits, HasCounted, IsNumberOf, StandsIn}
 use Rattle.judge.specs.Replies.{IsLast, IsWithin}
-use Rattle.judge.specs.Represents.{IsAtStage, Represents}
+use Rattle.judge.specs.Represents.{IsAtStage}
 use Rattle.judge.specs.Stages.{CountsAs, KeepsBound, Shown, Stage, collecting, idle, is_prepared, preparing}
 use Rattle.judge.proofs.Idling.{idle_shown, over_world}
 
@@ -44,8 +42,14 @@ keeps_bound g s w tally so_far k stands counted meets t reports =
         omega (arith, m, at.0, at.1, c.0, c.1)
     go false e m c =
         let mine = counted.begun e in
-        omega (arith, m, ap unit_limit mine, ap (λ (u : Tally). u.spent) mine, ap unit_limit c,
-        ap (λ (u : Tally). u.spent) c)
+        omega (
+          arith,
+          m,
+          ap unit_limit mine,
+          ap (λ (u : Tally). u.spent) mine,
+          ap unit_limit c,
+          ap (λ (u : Tally). u.spent) c,
+        )
 
 -- the stage after the units is that before them
 spent_idle : (w : World) (k : ℕ) → IsIdle (record w {

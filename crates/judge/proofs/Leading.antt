@@ -1,11 +1,10 @@
 -- A line of a lawful transcript: where the judge takes it, the rest is left; and it is no wrong one.
-use Rattle.std.proofs.Common.{◌≡◌, ◌≢◌, ◌∙◌, ◌↔◌, ◌⊎◌, inl, inr, ℕ, ◌<◌, ◌^◌, List, [], ◌∷◌, ◌++◌, map, Contains, drop}
-use Rattle.std.proofs.Common.{append_assoc, refl, sym, ap, subst}
+use Rattle.std.proofs.Common.{◌≡◌, ◌∙◌, inl, inr, ℕ, List, [], ◌∷◌, ◌++◌, map, drop}
+use Rattle.std.proofs.Common.{refl, sym, ap, subst}
 use Rattle.gz_names.specs.Zones.{zones_in}
 use Rattle.gz_names.specs.declared.zone_sets.ZoneSet.{ZoneSet}
 use Rattle.gz_names.specs.declared.commands.Cmd.{Cmd}
 use Rattle.gz_names.specs.declared.commands.Cmd.TheVariants as command
-use Rattle.gz_names.specs.declared.dumps.DumpLine.{DumpLine}
 use Rattle.gz_names.specs.declared.replies.Report.{Report}
 use Rattle.gz_names.specs.declared.replies.Report.TheVariants as report
 use Rattle.gz_names.specs.declared.replies.Reply.TheVariants as reply
@@ -16,8 +15,8 @@ use Rattle.colour_defs.proofs.ZoneSets.{zones_in-ascending}
 use Rattle.trace_lang.specs.Grammar.{Spells}
 use Rattle.trace_lang.specs.Texts.{reply_text, report_text}
 use Rattle.trace_lang.specs.Words.{number_words}
-use Rattle.judge.specs.Positions.{AreLeft, IsBefore, IsInReset, IsInUnits, StandsBetween}
-use Rattle.judge.specs.Replies.{Asks, Due, IsAnswered, IsDumped, IsRead, IsUnmarked, IsWrongAnswer, Steps, dump, dump_due}
+use Rattle.judge.specs.Positions.{AreLeft, IsBefore, IsInReset, StandsBetween}
+use Rattle.judge.specs.Replies.{Asks, Due, IsAnswered, IsWrongAnswer, Steps, dump, dump_due}
 use Rattle.judge.specs.Replies.{graph_after, marked, nothing, reply as reply_due, resets, units as units_due}
 use Rattle.judge.specs.Sound.{IsSound}
 use Rattle.judge.specs.Stages.{IsWrongResetLine, Shown, unfinished_in}
@@ -33,7 +32,6 @@ use Rattle.judge.proofs.Numbers.{same_numbers}
 use Rattle.judge.proofs.Refuting.{may_sweep, right_in_units}
 use Rattle.judge.proofs.Resetting.{answered_dump, answered_reply, answered_reset}
 use Rattle.judge.proofs.Slicing.{asked_finish, asked_reset, asked_slice}
-use Rattle.judge.proofs.Sound.{sound_steps}
 use Rattle.judge.proofs.SpelledZones.{spelled_zones}
 use Rattle.judge.proofs.Stopping.{unfinished_by}
 use Rattle.judge.proofs.Unmarked.{left_unmarked}

@@ -94,6 +94,8 @@ pub mod Refuting
 pub mod Unmarked
 pub mod Leading
 pub mod OneReading
+pub mod LineTexts
+pub mod LawfulBytes
 pub mod Completeness
 pub mod Concluding
 pub mod Spending

@@ -34,7 +34,7 @@ dump_unmarked (d ∷ ds) l c = elim (contains_cases (dump_line d) (map dump_line
 ]
 
 -- a dump has its last line at least
-never_empty : (w : World) (ls : List DumpLine) → IsDump w ls → ls ≡ [] → ⊥
+pub never_empty : (w : World) (ls : List DumpLine) → IsDump w ls → ls ≡ [] → ⊥
 never_empty w ls dump e = end_of (map (cell_line w) dump.cells) (flat_map (edge_lines w.graph) dump.cells)
     (map weak_line dump.weaks) (sym dump.lines_are ∙ e)
   where

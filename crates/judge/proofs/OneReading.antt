@@ -1,6 +1,5 @@
 -- Bytes have their lines in one way.
-use Rattle.std.proofs.Common.{◌≡◌, ◌∙◌, ◌⊎◌, inl, inr, ℕ, ◌<◌, List, [], ◌∷◌, ◌++◌, length, refl, sym, ap, subst, arith}
-use Rattle.std.proofs.lemmas.List.{append-nil}
+use Rattle.std.proofs.Common.{◌≡◌, ◌∙◌, inl, inr, ℕ, List, [], ◌∷◌, ◌++◌, length, refl, sym, subst, arith}
 use Rattle.gz_io.specs.Lines.{EndsLine}
 use Rattle.judge.specs.Lines.{IsOneLine, Lacks}
 use Rattle.judge.specs.Transcripts.{HasLines}

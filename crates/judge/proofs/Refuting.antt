@@ -1,36 +1,33 @@
 -- A line of a lawful transcript is no wrong one: in an answer with units.
-use Rattle.std.proofs.Common.{◌≡◌, ◌≢◌, ◌∙◌, ◌↔◌, ◌⊎◌, inl, inr, ℕ, ◌+◌, ◌<◌, ◌≤◌, ◌^◌, Bool, true, false, List, [], ◌∷◌}
-use Rattle.std.proofs.Common.{◌++◌, map, Option, Some, None, Contains, codes, drop, is_some, length, refl, sym, ap, subst, arith}
+use Rattle.std.proofs.Common.{◌≡◌, ◌∙◌, ◌↔◌, inl, inr, ℕ, ◌+◌, ◌≤◌, Bool, true, false, List, [], ◌∷◌}
+use Rattle.std.proofs.Common.{◌++◌, map, Option, Some, None, Contains, codes, drop, length, refl, sym, ap, subst, arith}
 use Rattle.gz_names.specs.Zones.{zones_in}
 use Rattle.gz_names.specs.declared.names.Name.{Name}
 use Rattle.gz_names.specs.declared.zone_sets.ZoneSet.{ZoneSet}
 use Rattle.gz_names.specs.declared.replies.Report.{Report}
 use Rattle.gz_names.specs.declared.replies.Report.TheVariants as report
-use Rattle.gz_names.specs.declared.replies.Reply.TheVariants as reply
-use Rattle.colour_defs.specs.Ends.{IsGrayOf, IsLawfulEnd, Lists}
+use Rattle.colour_defs.specs.Ends.{IsGrayOf, IsLawfulEnd}
 use Rattle.colour_defs.specs.Graph.{GraphState, IsInZones}
 use Rattle.colour_defs.specs.Groups.{AreLawfulGroups}
-use Rattle.colour_defs.specs.Lawful.{EndsGroup as EndsIn, HasTally, IsLawfulReport, IsLawfulSweep}
-use Rattle.colour_defs.specs.Units.{MeetsUnitBound, Tally, sweeps_in, unit_limit}
-use Rattle.colour_defs.specs.World.{Collection, IsIdle, Preparation, World, first_tally}
+use Rattle.colour_defs.specs.Lawful.{EndsGroup as EndsIn, IsLawfulReport, IsLawfulSweep}
+use Rattle.colour_defs.specs.Units.{Tally}
+use Rattle.colour_defs.specs.World.{Collection, Preparation, World}
 use Rattle.colour_defs.proofs.Lists.{contains_head}
 use Rattle.colour_defs.proofs.Membership.{gray_of}
-use Rattle.trace_lang.specs.Texts.{name_words, reply_text, report_text, told_text}
+use Rattle.trace_lang.specs.Texts.{name_words, report_text, told_text}
 use Rattle.trace_lang.specs.Words.{number_words}
-use Rattle.judge.specs.Bounds.{with_units}
 use Rattle.judge.specs.Cells.{HasCell, IsGray}
-use Rattle.judge.specs.Positions.{EndsUnits, HasCounted, IsInUnits, IsLeftOfUnits, StandsIn}
-use Rattle.judge.specs.Replies.{Counts, IsLast, IsUncounted, IsWithin, IsWrongAnswer, units as units_due}
-use Rattle.judge.specs.Represents.{HasFound, IsAtStage, IsCollected, Represents}
+use Rattle.judge.specs.Positions.{EndsUnits, IsInUnits, StandsIn}
+use Rattle.judge.specs.Replies.{IsLast, IsUncounted, IsWrongAnswer, units as units_due}
+use Rattle.judge.specs.Represents.{HasFound, IsAtStage, Represents}
 use Rattle.judge.specs.Running.{HasUnits}
-use Rattle.judge.specs.Stages.{CountsAs, IsOver, IsWrongReport, IsWrongReportLine, KeepsBound, MayEnd, MaySweep, Shown, Stage}
-use Rattle.judge.specs.Stages.{collecting, idle, is_prepared, preparing}
-use Rattle.judge.specs.Transcripts.{lines_of_report, told_lines}
-use Rattle.judge.specs.Walks.{IsFoundBlack, IsFoundLive, Walks}
+use Rattle.judge.specs.Stages.{IsWrongReport, IsWrongReportLine, MayEnd, MaySweep, Shown, Stage}
+use Rattle.judge.specs.Stages.{collecting, idle, preparing}
+use Rattle.judge.specs.Walks.{Walks}
 use Rattle.judge.specs.Whites.{whites_in}
 use Rattle.judge.proofs.Answered.{base_of, base_text, head_is, left_next, report_lines, told_next}
 use Rattle.judge.proofs.Found.{lists_as}
-use Rattle.judge.proofs.Idling.{idle_shown, over_shown, over_world}
+use Rattle.judge.proofs.Idling.{over_shown}
 use Rattle.judge.proofs.LastLine.{right_last}
 use Rattle.judge.proofs.LineKinds.{is_done, not_telling}
 use Rattle.judge.proofs.OneList.{one_list}
@@ -117,23 +114,30 @@ module _ (g : GraphState) (s : Shown) (w : World) (stands : StandsIn g s w) (non
       let first : zones_in zones ≡ zones_in group = cc groups in
       let found = at.found (subst Rattle.judge.specs.Stages.HasGroups (sym e) tt) in
       let lawful = subst (λ c. IsLawfulEnd w c (zones_in zones) ends.rest grays u) same ends.ends in
-      let gray = gray_in at.collection group zones found.0 found.1 first in (group, first, record {
-        none_out = sym here.out_are ∙ lawful.ready;
-        first = (zs, marking, rest, e);
-        walks = found.0;
-        found = found.1.walks_are;
-        grays_are = lists_as (IsGrayOf w at.collection (zones_in zones))
-            (λ x. HasCell s.cells x × IsGray g (zones_in group) s.former.graph found.0 x) grays (λ x h. (gray x).0 h)
-            (λ x h. (gray x).1 h) lawful.grays_are;
-      })
+      let gray = gray_in at.collection group zones found.0 found.1 first in (
+        group,
+        first,
+        record {
+          none_out = sym here.out_are ∙ lawful.ready;
+          first = (zs, marking, rest, e);
+          walks = found.0;
+          found = found.1.walks_are;
+          grays_are = lists_as (IsGrayOf w at.collection (zones_in zones))
+              (λ x. HasCell s.cells x × IsGray g (zones_in group) s.former.graph found.0 x) grays (λ x h. (gray x).0 h)
+              (λ x h. (gray x).1 h) lawful.grays_are;
+        },
+      )
 
   -- the lowest arena may be taken in
   pub may_sweep : (arena : ℕ) (freed : List Name) (u : World) → IsLawfulSweep w arena freed u → MaySweep s arena freed
   may_sweep arena freed u sweep =
-      let out : s.out ≡ arena ∷ sweep.rest = sym here.out_are ∙ sweep.first in
-      (sweep.rest, out, one_list (λ x. (slot : ℕ) × Contains w.white (x, (arena, slot))) freed (whites_in s.whites arena)
-      sweep.freed_are (here.white_are arena (subst (λ os. Contains os arena) (sym out)
-      (contains_head arena sweep.rest))))
+      let out : s.out ≡ arena ∷ sweep.rest = sym here.out_are ∙ sweep.first in (
+        sweep.rest,
+        out,
+        one_list (λ x. (slot : ℕ) × Contains w.white (x, (arena, slot))) freed (whites_in s.whites arena)
+            sweep.freed_are (here.white_are arena (subst (λ os. Contains os arena) (sym out)
+            (contains_head arena sweep.rest))),
+      )
 
   -- a report that comes is no wrong one
   pub right_report : (r : Report) (u : World) (line : List ℕ) → IsLawfulReport w r u → line ≡ first_of r

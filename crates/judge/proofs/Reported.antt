@@ -1,6 +1,6 @@
 -- A report of a unit, in the judge's world and in one of the definitions: the judge stands for the world after it.
-use Rattle.std.proofs.Common.{◌≡◌, ◌≢◌, ◌∙◌, ◌⊎◌, inl, inr, ℕ, ◌+◌, Bool, true, false, List, [], ◌∷◌, ◌++◌, map, Option, Some}
-use Rattle.std.proofs.Common.{None, Contains, refl, sym, ap, subst, arith}
+use Rattle.std.proofs.Common.{◌≡◌, ◌∙◌, inl, inr, ℕ, ◌+◌, Bool, true, false, List, [], ◌∷◌, ◌++◌, map}
+use Rattle.std.proofs.Common.{Contains, refl, sym, ap, subst, arith}
 use Rattle.gz_names.specs.Zones.{zones_in}
 use Rattle.gz_names.specs.declared.names.Name.{Name}
 use Rattle.gz_names.specs.declared.zone_sets.ZoneSet.{ZoneSet}
@@ -15,8 +15,8 @@ use Rattle.colour_defs.proofs.Tallies.{sweeps_both}
 use Rattle.trace_lang.specs.Texts.{report_text}
 use Rattle.colour_defs.proofs.ZoneSets.{zones_in-has}
 use Rattle.judge.specs.Bounds.{with_sweep}
-use Rattle.judge.specs.Positions.{HasCounted, KeepsLaws, StandsIn}
-use Rattle.judge.specs.Represents.{IsAtStage, IsPrepared, Represents}
+use Rattle.judge.specs.Positions.{HasCounted, StandsIn}
+use Rattle.judge.specs.Represents.{IsAtStage, Represents}
 use Rattle.judge.specs.Sound.{IsSound}
 use Rattle.judge.specs.Stages.{EndsGroup, Finishes, Forms, IsReported, Shown, Stage, Starts, Sweeps, collecting, idle}
 use Rattle.judge.specs.Stages.{is_prepared, preparing}

@@ -1,8 +1,7 @@
 -- A line of another answer, in a lawful transcript: of a reset, of a dump, or a reply.
-use Rattle.std.proofs.Common.{◌≡◌, ◌≢◌, ◌∙◌, ◌⊎◌, inl, inr, ℕ, List, [], ◌∷◌, ◌++◌, map, Contains, refl, sym, ap, subst}
+use Rattle.std.proofs.Common.{◌≡◌, ◌∙◌, inl, inr, ℕ, List, [], ◌∷◌, ◌++◌, map, sym, ap, subst}
 use Rattle.gz_names.specs.Zones.{zones_in}
 use Rattle.gz_names.specs.declared.names.Name.{Name}
-use Rattle.gz_names.specs.declared.zone_sets.ZoneSet.{ZoneSet}
 use Rattle.gz_names.specs.declared.dumps.DumpLine.{DumpLine}
 use Rattle.gz_names.specs.declared.replies.Report.{Report}
 use Rattle.gz_names.specs.declared.replies.Report.TheVariants as report
@@ -10,16 +9,16 @@ use Rattle.gz_names.specs.declared.replies.Reply.TheVariants as reply
 use Rattle.colour_defs.specs.Graph.{GraphState}
 use Rattle.colour_defs.specs.Lawful.{AreLawfulSweeps, IsLawfulSweep, LastOfReset}
 use Rattle.colour_defs.specs.World.{World}
-use Rattle.colour_defs.proofs.Lists.{contains_cases, contains_head, contains_tail, nothing_in_none}
-use Rattle.trace_lang.specs.Texts.{reply_text, report_text}
-use Rattle.judge.specs.Positions.{AreLeft, IsBefore, IsInReset, KeepsLaws, StandsBetween, StandsIn}
-use Rattle.judge.specs.Replies.{Due, IsAnswered, IsDumped, IsUnmarked, after_reset, dump as dump_due, dump_due as due_of}
-use Rattle.judge.specs.Replies.{nothing, reply as reply_due, resets}
-use Rattle.judge.specs.Represents.{IsAtStage, Represents}
+use Rattle.colour_defs.proofs.Lists.{contains_cases, contains_tail, nothing_in_none}
+use Rattle.trace_lang.specs.Texts.{reply_text}
+use Rattle.judge.specs.Positions.{AreLeft, IsBefore, IsInReset, StandsIn}
+use Rattle.judge.specs.Replies.{Due, IsAnswered, IsDumped, IsUnmarked, after_reset, dump_due as due_of}
+use Rattle.judge.specs.Replies.{resets}
+use Rattle.judge.specs.Represents.{IsAtStage}
 use Rattle.judge.specs.Sound.{IsSound}
-use Rattle.judge.specs.Stages.{Finishes, IsResetLine, IsResetReport, Shown, Stage, Stops, Sweeps, collecting, idle}
+use Rattle.judge.specs.Stages.{IsResetLine, IsResetReport, Shown, Stage, Sweeps, collecting, idle}
 use Rattle.judge.specs.Stages.{preparing}
-use Rattle.judge.specs.Transcripts.{IsLawfulFrom, dump_line, lines_of_report, lines_of_reports}
+use Rattle.judge.specs.Transcripts.{dump_line, lines_of_reports}
 use Rattle.judge.proofs.Answered.{head_is, tail_is}
 use Rattle.judge.proofs.Finishing.{represents_finish}
 use Rattle.judge.proofs.Idling.{over_shown}

@@ -1,7 +1,6 @@
 -- Groups are read from a line in one way, but for zones that no word has.
-use Rattle.std.proofs.Common.{◌≡◌, ◌≢◌, ◌∙◌, ◌-◌, true, ℕ, ◌<◌, ◌^◌, List, [], ◌∷◌, ◌++◌, drop, length, map, take, Contains}
-use Rattle.std.proofs.Common.{refl, sym, ap, subst, arith}
-use Rattle.std.specs.Prelude.{codes}
+use Rattle.std.proofs.Common.{◌≡◌, ◌≢◌, ◌∙◌, true, ℕ, ◌<◌, List, [], ◌∷◌, ◌++◌, drop, map, Contains}
+use Rattle.std.proofs.Common.{refl, sym, ap, arith}
 use Rattle.std.specs.Fmt.{decimal}
 use Rattle.std.specs.Str.{all_ascii_digits}
 use Rattle.std.proofs.lemmas.Fmt.{decimal_injective, digits_decimal}
@@ -14,7 +13,7 @@ use Rattle.gz_names.proofs.Words.{HasZone-below}
 use Rattle.colour_defs.proofs.Lists.{contains_head, contains_tail}
 use Rattle.colour_defs.proofs.ZoneSets.{zones_in-has}
 use Rattle.trace_lang.specs.Texts.{groups_text, report_text}
-use Rattle.trace_lang.specs.Words.{IsBreak, IsWord, number_word, number_words}
+use Rattle.trace_lang.specs.Words.{IsBreak, IsWord, number_words}
 use Rattle.trace_lang.proofs.Decimals.{own}
 use Rattle.trace_lang.proofs.Spelling.{same_word}
 use Rattle.judge.specs.Lines.{Lacks}

@@ -15,12 +15,11 @@ use Rattle.judge.specs.Running.{HasUnits}
 use Rattle.judge.specs.Stages.{Shown}
 use Rattle.judge.specs.Transcripts.{AreOfAnswer, HasLines, IsLawfulSoFar, dump_line, lines_of_report}
 use Rattle.judge.specs.Transcripts.{lines_of_reports, told_lines, transcript}
-use Rattle.judge.specs.Endings.{EndsWithin, IsFirstUnread}
-use Rattle.judge.specs.Verdicts.{HasJudged, IsCut, IsFirstBad}
+use Rattle.judge.specs.Verdicts.{HasJudged}
 use Rattle.judge.proofs.NewPlaces.{places_new}
 use Rattle.judge.proofs.Progress.{AreUnitsOf, IsDueNow, IsInAnswer, Progress, UpTo, collect, finish, slice}
 use Rattle.judge.proofs.Soundness.{reached}
-use Rattle.judge.proofs.Transcribing.{flat_more, has_more, lines_both, units_more}
+use Rattle.judge.proofs.Transcribing.{flat_more, lines_both, units_more}
 use Rattle.judge.proofs.UnitLines.{HasUnitsSoFar, IsInUnit, between, ending}
 
 -- lines that are those of a lawful answer, as far as they go

@@ -21,7 +21,7 @@ use Rattle.judge.specs.Replies.{Asks, Due, IsAnswered, IsDumped, IsLast, IsSlice
 use Rattle.judge.specs.Replies.{graph_after, marked, none, nothing, reply, resets, units}
 use Rattle.judge.specs.Sound.{IsSound}
 use Rattle.judge.specs.Stages.{IsResetReport, Shown, Stage, collecting, idle, preparing}
-use Rattle.judge.specs.Transcripts.{HasLines, HasSmallNumber, IsLawfulInput, dump_line, lines_of_answer}
+use Rattle.judge.specs.Transcripts.{HasLines, HasSmallNumber, HasLawfulLines, dump_line, lines_of_answer}
 use Rattle.judge.specs.Transcripts.{transcript}
 use Rattle.judge.specs.Verdicts.{IsJudgedWhole}
 use Rattle.judge.proofs.FirstWorld.{first_whole}
@@ -329,7 +329,7 @@ reached places input (answered {n} {rest} {more} {line} {g} {due} {next} {old} {
     }
 
 -- what is judged whole is lawful
-pub sound_judge : PlacesCells → (input : List ℕ) → IsJudgedWhole input → IsLawfulInput input
+pub sound_judge : PlacesCells → (input : List ℕ) → IsJudgedWhole input → HasLawfulLines input
 sound_judge places input (n, j) =
     let r = reached places input j.judged in (
       r.lines,

@@ -1,6 +1,6 @@
 -- What comes next of an answer with units: `done`, which is due to the unit that has begun; the report of the next unit
 -- that reports something; or the last line.
-use Rattle.std.proofs.Common.{◌≡◌, ◌≢◌, ◌∙◌, ◌⊎◌, inl, inr, ℕ, ◌+◌, ◌≤◌, Bool, true, false, List, [], ◌∷◌, ◌++◌, Option}
+use Rattle.std.proofs.Common.{◌≡◌, ◌≢◌, ◌∙◌, ℕ, ◌+◌, ◌≤◌, Bool, true, false, List, [], ◌∷◌, ◌++◌, Option}
 use Rattle.std.proofs.Common.{append_assoc, length, refl, sym, ap, subst, arith}
 use Rattle.std.specs.List.{flat_map}
 use Rattle.std.proofs.lemmas.List.{append-nil}
@@ -13,7 +13,6 @@ use Rattle.colour_defs.specs.World.{World}
 use Rattle.trace_lang.specs.Texts.{report_text}
 use Rattle.judge.specs.Positions.{AreLeftUnits, EndsUnits, IsLeftOfUnits, left_reports}
 use Rattle.judge.specs.Transcripts.{IsLawfulFrom, lines_of_report, lines_of_reports}
-use Rattle.judge.proofs.Idling.{never_both}
 
 -- a collection that is over runs no longer, so it is not over
 pub finished_not_over : (w u : World) → Finishes w u → IsOver u → ⊥

@@ -1,8 +1,7 @@
 -- Lines that are left within an answer do not begin as those of a trace do.
-use Rattle.std.proofs.Common.{◌≡◌, ◌≢◌, ◌∙◌, ◌⊎◌, inl, inr, ℕ, Bool, true, false, List, [], ◌∷◌, ◌++◌, Option, map, Contains}
-use Rattle.std.proofs.Common.{codes, refl, sym, ap, subst}
+use Rattle.std.proofs.Common.{◌≡◌, ◌≢◌, ◌∙◌, ℕ, Bool, true, false, List, [], ◌∷◌, ◌++◌, Option, map}
+use Rattle.std.proofs.Common.{codes, refl, sym, subst}
 use Rattle.gz_names.specs.declared.names.Name.{Name}
-use Rattle.gz_names.specs.declared.dumps.DumpLine.{DumpLine}
 use Rattle.gz_names.specs.declared.replies.Report.{Report}
 use Rattle.gz_names.specs.declared.replies.Report.TheVariants as report
 use Rattle.gz_names.specs.declared.replies.Reply.TheVariants as reply
@@ -20,7 +19,7 @@ use Rattle.judge.proofs.Answered.{head_is, left_next, report_lines, told_next}
 use Rattle.judge.proofs.PlainTexts.{done_plain, ended_plain, groups_line_plain, reply_plain, started_plain, stopped_plain}
 use Rattle.judge.proofs.PlainTexts.{ArePlain, swept_plain, told_plain, unmarked}
 use Rattle.judge.proofs.Reported.{first_of}
-use Rattle.judge.proofs.UnitsLeft.{DoneNext, LastNext, NextLeft, ReportNext, done_next, last_next, next_left, report_next}
+use Rattle.judge.proofs.UnitsLeft.{NextLeft, done_next, last_next, next_left, report_next}
 
 first_plain : (r : Report) → ArePlain (first_of r)
 first_plain report.Started = started_plain

@@ -15,7 +15,7 @@ use Rattle.gz_names.specs.declared.replies.Report.TheVariants as report
 use Rattle.colour_defs.specs.World.{World, first_world}
 use Rattle.colour_defs.specs.Lawful.{Answers, Run, StartsToAnswer}
 use Rattle.trace_lang.specs.Grammar.{Spells}
-use Rattle.trace_lang.specs.Texts.{name_words, reply_text, report_text}
+use Rattle.trace_lang.specs.Texts.{line_of, name_words, reply_text, report_text}
 use Rattle.judge.specs.Lines.{IsOneLine}
 use Rattle.judge.specs.Replies.{marked}
 
@@ -154,9 +154,34 @@ HasLines input [] rest = rest ≡ input
 HasLines input (line ∷ lines) rest =
     (more : List ℕ) × IsOneLine line × EndsLine input more line × HasLines more lines rest
 
--- the bytes are those of a lawful transcript
-abbrev pub IsLawfulInput : List ℕ → Type 0
-IsLawfulInput input = (lines : List (List ℕ)) × HasLines input lines [] × IsLawful lines
+-- the bytes have the lines of a lawful transcript
+abbrev pub HasLawfulLines : List ℕ → Type 0
+HasLawfulLines input = (lines : List (List ℕ)) × HasLines input lines [] × IsLawful lines
+
+-- the same over bytes: the lines that answer a command are its reports and its reply, as they are written
+abbrev pub report_lines : List Report → List ℕ
+report_lines reports = flat_map (λ r. line_of (report_text r)) reports
+
+abbrev pub answer_lines : Answer → List ℕ
+answer_lines answer = report_lines answer.0 ++ line_of (reply_text answer.1)
+
+abbrev pub transcript_text : List (List ℕ) → List Answer → List ℕ
+transcript_text [] answers = []
+transcript_text (line ∷ lines) [] = []
+transcript_text (line ∷ lines) (answer ∷ answers) =
+    line_of (marked line) ++ (answer_lines answer ++ transcript_text lines answers)
+
+-- bytes are this text, of which the last line feed may be lacking
+abbrev pub IsText : List ℕ → List ℕ → Type 0
+IsText input text = (input ≡ text) ⊎ (input ++ 10 ∷ [] ≡ text)
+
+-- a trace with lawful answers to its commands from the first world on, and the bytes of their lines
+pub record IsLawfulInput (input : List ℕ) : Type 0 where
+  pub trace : List (List ℕ)
+  pub answers : List Answer
+  pub after : World
+  pub lawful : IsLawfulRun first_world trace answers after
+  pub text : IsText input (transcript_text trace answers)
 
 -- the n-th line, counted from 1, is the first one with which no lawful transcript begins that goes on as the lines
 -- before it do: these are lawful so far
