@@ -19,7 +19,7 @@ use Rattle.judge.specs.Stages as judged
 use Rattle.judge.specs.Stages.{CountsAs, Shown, Stage, collecting, idle, is_prepared, preparing}
 use Rattle.judge.specs.Transcripts.{lines_of_reports, told_lines}
 use Rattle.judge.proofs.LiveRuns.{answer_live}
-use Rattle.judge.proofs.OverBoth.{idle_of, over_back}
+use Rattle.judge.proofs.Idling.{idle_world, over_shown}
 use Rattle.judge.proofs.Spending.{represents_spent, spent_in}
 use Rattle.judge.proofs.Transcribing.{quiet_first, quiet_length, quiet_reports, quiet_units}
 use Rattle.judge.proofs.UnitLines.{HasUnitsSoFar, IsInUnit, between, ending}
@@ -39,7 +39,7 @@ closing g t w v c reports answer laws h rep sound told over registers slots = re
     };
     sound = sound;
   };
-  not_over = λ o. over (over_back t v rep o);
+  not_over = λ o. over (over_shown rep o);
   none_told = told;
 }
 
@@ -83,7 +83,7 @@ module _ (before : World) (g : GraphState) (s t : Shown) (most : Option ℕ) (re
       → HasCounted s now tally (flat_map (λ u. u) units ++ tail) → Ends l.number
   slice_at run l units (x ∷ (y ∷ ys)) now state st lines count tally has counted = elim state [ ]
   slice_at run l units (r ∷ []) now (ending u lu ran nd lawful over) st lines count tally has counted =
-      absurd (l.not_over (over_back s now st.represents over))
+      absurd (l.not_over (over_shown st.represents over))
   slice_at run l units [] now (between lu goes) st lines count tally has counted =
       let rs = flat_map (λ (u : List Report). u) units in
       let n = l.number - length units in
@@ -112,7 +112,7 @@ module _ (before : World) (g : GraphState) (s t : Shown) (most : Option ℕ) (re
         represents_spent g l.number s t now st.represents l.spends.new_is,
         ap (λ a. length a.registers) (sym st.represents.graph_is) ∙ st.laws.registers,
         ap (λ a. length a.slots) (sym st.represents.graph_is) ∙ st.laws.slots,
-        (λ e. let i = idle_of s now st.represents e in record {
+        (λ e. let i = idle_world st.represents e in record {
           none_running = ap (λ o. with_spent l.number o) i.none_running;
           none_preparing = ap (λ o. with_spent_preparing l.number o) i.none_preparing;
         }),
@@ -137,7 +137,7 @@ module _ (begun : World) (g : GraphState) (s : Shown) (reports : ℕ) (part : Li
       → part ++ told_lines s.told ≡ lines_of_reports (flat_map (λ u. u) units ++ tail) → Whole
   whole_at e none units (x ∷ (y ∷ ys)) now state st lines = elim state [ ]
   whole_at e none units (r ∷ []) now (ending u lu ran nd lawful over) st lines =
-      let i = idle_of s now st.represents e in absurd (cc (i.none_running, over.running))
+      let i = idle_world st.represents e in absurd (cc (i.none_running, over.running))
   whole_at e none units [] now (between lu goes) st lines = (
     units,
     now,

@@ -95,7 +95,6 @@ pub mod Spending
 pub mod Accepting
 pub mod Answering
 pub mod OverBoth
-pub mod WeakWorlds
 pub mod PlainReplies
 pub mod IdleWorlds
 pub mod Transcribing

@@ -26,7 +26,7 @@ use Rattle.judge.specs.Transcripts.{transcript}
 use Rattle.judge.specs.Verdicts.{IsJudgedWhole}
 use Rattle.judge.proofs.FirstWorld.{first_whole}
 use Rattle.judge.proofs.LastWorlds.{closing, slice_ends, whole_ends}
-use Rattle.judge.proofs.OverBoth.{idle_of}
+use Rattle.judge.proofs.Idling.{idle_world}
 use Rattle.judge.proofs.Progress.{AreUnitsOf, IsDueNow, IsInAnswer, IsWhole, Progress, UpTo, collect, finish, slice}
 use Rattle.judge.proofs.ResetLines.{HasReset, done_ends, stop_ends, sweep_next}
 use Rattle.judge.proofs.Sound.{sound_first, sound_steps}
@@ -82,7 +82,7 @@ module _ (before : World) (laws : KeepsLaws before) (g : GraphState) (s t : Show
           units = w.0;
           done = w.2;
           reports_are = refl;
-          over = idle_of s w.1 w.4.represents idle_is;
+          over = idle_world w.4.represents idle_is;
         },
       ) in (
         flat_map (λ (u : List Report). u) w.0,

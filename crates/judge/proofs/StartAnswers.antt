@@ -1,5 +1,5 @@
 -- A command is read: its answer has begun lawfully.
-use Rattle.std.proofs.Common.{◌≡◌, ◌≢◌, ◌∙◌, ℕ, ◌<◌, ◌^◌, inl, inr, Bool, true, false, cond, List, [], ◌∷◌, Option}
+use Rattle.std.proofs.Common.{◌≡◌, ◌≢◌, ◌∙◌, ℕ, ◌<◌, ◌^◌, inl, inr, true, false, List, [], ◌∷◌, Option}
 use Rattle.std.proofs.Common.{◌+◌, arith, Some, None, Contains, ap, refl, slice_index_or, subst, sym}
 use Rattle.std.specs.FinSet as set
 use Rattle.gz_names.specs.Zones.{zones_in}
@@ -22,7 +22,7 @@ use Rattle.colour_defs.specs.WeakRefs as defs
 use Rattle.colour_defs.specs.WeakRefs.{WeakInWorld, unwatch_cell, watch_cell, weak_cell}
 use Rattle.colour_defs.specs.World.{Has, IsPresent, World, first_preparation}
 use Rattle.colour_defs.specs.World.{first_tally}
-use Rattle.colour_defs.proofs.Lists.{contains_head}
+use Rattle.colour_defs.proofs.Lists.{choose, contains_head}
 use Rattle.colour_defs.proofs.ZoneSets.{zones_in-has}
 use Rattle.trace_lang.specs.Grammar.{Spells}
 use Rattle.trace_lang.specs.Texts.{reply_text}
@@ -35,13 +35,12 @@ use Rattle.judge.specs.Sound.{IsSound}
 use Rattle.judge.specs.Stages as judged
 use Rattle.judge.specs.Stages.{Changes, IsSettled, Obeys, Shown, Stage, TakesNamed, collecting, idle, is_prepared, preparing}
 use Rattle.judge.specs.Transcripts.{told_lines}
-use Rattle.judge.specs.Weak.{is_watched, weak_slot}
+use Rattle.judge.specs.Weak.{weak_slot}
 use Rattle.judge.specs.declared.former.Change.{Change}
-use Rattle.judge.specs.declared.weak.WeakNames.{WeakNames}
 use Rattle.judge.proofs.Answering.{commanded, derefed}
 use Rattle.judge.proofs.IdleWorlds.{compacted, preparing_begun}
 use Rattle.judge.proofs.LastWorlds.{closing}
-use Rattle.judge.proofs.OverBoth.{over_to, idle_of, running_of}
+use Rattle.judge.proofs.Idling.{idle_world, over_world, running_world}
 use Rattle.judge.proofs.PlainReplies.{IsPlain, named_plain, plain_step}
 use Rattle.judge.proofs.Progress.{IsDueNow, Progress, collect, finish, slice}
 use Rattle.judge.proofs.ResetLines.{HasSweptSoFar}
@@ -50,7 +49,7 @@ use Rattle.judge.proofs.Sizes.{HasSizes, command_sizes, take_sizes}
 use Rattle.judge.proofs.SpelledZones.{spelled_zones}
 use Rattle.judge.proofs.Standing.{present_is, settled_rests}
 use Rattle.judge.proofs.UnitLines.{HasUnitsSoFar, between}
-use Rattle.judge.proofs.WeakWorlds.{represents_slot, represents_unwatched, represents_watched}
+use Rattle.judge.proofs.Reweak.{represents_unwatch, represents_watch, represents_weaken}
 use Rattle.judge.proofs.WorldSweeps.{lists_same}
 
 -- what a change says of where cells lie
@@ -67,9 +66,34 @@ still_open s t stage out none o = none (record {
   none_out = sym out ∙ o.none_out;
 })
 
+-- what commands on weak slots and watched cells leave as it is
+abbrev pub KeepsStage : Shown → Shown → Type 0
+KeepsStage s t = (t.stage ≡ s.stage) × (t.out ≡ s.out) × (t.told ≡ s.told)
+
+keeps_of : (s t u : Shown) → t ≡ u → KeepsStage s u → KeepsStage s t
+keeps_of s t u same = subst (KeepsStage s) (sym same)
+
+watch_keeps : (s t : Shown) (x : Option Name) (due : Due) → AsksWatch x s due t → KeepsStage s t
+watch_keeps s t None due asks = keeps_of s t s asks.1 (refl, refl, refl)
+watch_keeps s t (Some x) due asks = keeps_of s t (record s { weak = t.weak }) asks.1 (refl, refl, refl)
+
+unwatch_keeps : (s t : Shown) (x : Option Name) (due : Due) → AsksUnwatch x s due t → KeepsStage s t
+unwatch_keeps s t None due asks = keeps_of s t s asks.1 (refl, refl, refl)
+unwatch_keeps s t (Some x) due (inl h) = keeps_of s t s h.2 (refl, refl, refl)
+unwatch_keeps s t (Some x) due (inr h) = keeps_of s t (record s { weak = t.weak }) h.2 (refl, refl, refl)
+
+watch_plain : (w : World) (x : Option Name) → IsPlain (watch_cell w x).1
+watch_plain w None = record { line = refl; small = tt }
+watch_plain w (Some x) = record { line = refl; small = tt }
+
+unwatch_plain : (w : World) (x : Option Name) → IsPlain (unwatch_cell w x).1
+unwatch_plain w None = record { line = refl; small = tt }
+unwatch_plain w (Some x) = choose (λ (p : World × Reply). IsPlain p.1) (set.contains w.weak.watched x) _ _
+    (λ _. record { line = refl; small = tt }) (λ _. record { line = refl; small = tt })
+
 module _ (s t : Shown) (w : World) (b : StandsBetween w.graph s w) where
   never_over : judged.IsOver s → ⊥
-  never_over o = b.not_over (over_to s w b.stands.represents o)
+  never_over o = b.not_over (over_world b.stands.represents o)
 
   -- an answer of one line, after which the world is this one
   one_line : (c : Cmd) (r : Reply) (h : GraphState) (v : World) → Answers w c [] r v → IsPlain r → Represents h t v
@@ -107,12 +131,12 @@ module _ (s t : Shown) (w : World) (b : StandsBetween w.graph s w) where
   to_begin : (zones : List ℕ) (Made : Type 0) → (((z : ℕ) → Contains zones z → z < w.graph.zones) → Made) → (why : Refusal)
       → IsRefusal Made s.stage why → RefusesToBegin w zones [] (answer.Refused why) w
   to_begin zones Made made why (inl h) =
-      inl (ap answer.Refused h.0, running_of s w b.stands.represents h.1, quietly)
+      inl (ap answer.Refused h.0, running_world b.stands.represents h.1, quietly)
   to_begin zones Made made why (inr h) =
-      inr (ap answer.Refused h.0, idle_of s w b.stands.represents h.1, (λ m. h.2 (made m)), quietly)
+      inr (ap answer.Refused h.0, idle_world b.stands.represents h.1, (λ m. h.2 (made m)), quietly)
 
   idle_refusal : s.stage ≡ idle → RefusesIdle w [] (answer.Refused refusal.Idle) w
-  idle_refusal e = (refl, idle_of s w b.stands.represents e, quietly)
+  idle_refusal e = (refl, idle_world b.stands.represents e, quietly)
 
   -- units begin in a world
   tally_at : (u : Stage) → s.stage ≡ u → u ≢ idle → IsAtStage u s w → (tally : Tally) × HasTally w tally
@@ -161,15 +185,10 @@ module _ (s t : Shown) (w : World) (b : StandsBetween w.graph s w) where
       (command_sizes w.graph c)
 
   -- weak slots and watched cells
-  accepted : IsPlain answer.Accepted
-  accepted = record { line = refl; small = tt }
-
-  weak_line : (c : WeakCmd) (r : Reply) (v : World) (weak : WeakNames) → WeakInWorld w c r v → IsPlain r
-      → t ≡ record s { weak = weak } → Represents w.graph (record s { weak = weak }) v → IsSound w.graph t
-      → IsDueNow w (command.Weak c) w.graph t (reply_text r ∷ []) []
-  weak_line c r v weak lawful plain same rep sound = one_line (command.Weak c) r w.graph v (refl, lawful) plain
-      (subst (λ u. Represents w.graph u v) (sym same) rep) sound (ap (λ (u : Shown). u.stage) same)
-      (ap (λ (u : Shown). u.out) same) (ap (λ (u : Shown). u.told) same) same_sizes
+  weak_line : (c : WeakCmd) (r : Reply) (v : World) → WeakInWorld w c r v → IsPlain r → KeepsStage s t
+      → Represents w.graph t v → IsSound w.graph t → IsDueNow w (command.Weak c) w.graph t (reply_text r ∷ []) []
+  weak_line c r v lawful plain keeps rep sound =
+      one_line (command.Weak c) r w.graph v (refl, lawful) plain rep sound keeps.0 keeps.1 keeps.2 same_sizes
 
   deref_starts : PlacesCells → (r q : ℕ) → TakesNamed w.graph r (weak_cell w q) s t
       → IsSound (with_register w.graph r (weak_cell w q)) t
@@ -182,55 +201,23 @@ module _ (s t : Shown) (w : World) (b : StandsBetween w.graph s w) where
       (with_register w.graph r (weak_cell w q)) made.0 (refl, made.1) (named_plain (weak_cell w q)) made.2 sound
       taken.changes.stage_is taken.changes.out_is taken.changes.told_is (take_sizes w.graph r (weak_cell w q))
 
-  watch_starts : (r : ℕ) (x : Option Name) → register_cell w.graph r ≡ x → (due : Due) → AsksWatch x s due t
-      → IsSound w.graph t → Progress w (command.Weak (weak_command.Watch r)) w.graph t due []
-  watch_starts r None e due asks sound =
-      subst (λ d. Progress w (command.Weak (weak_command.Watch r)) w.graph t d []) (sym asks.0)
-      (no_change (command.Weak (weak_command.Watch r)) (answer.Refused refusal.Empty)
-      (refl, (ap (λ o. (watch_cell w o).1) (sym e), ap (λ o. (watch_cell w o).0) (sym e)))
-      (refused_plain refusal.Empty) asks.1 sound)
-  watch_starts r (Some x) e due asks sound =
-      subst (λ d. Progress w (command.Weak (weak_command.Watch r)) w.graph t d []) (sym asks.0)
-      (weak_line (weak_command.Watch r) answer.Accepted (defs.with_watched w x) t.weak
-      (ap (λ o. (watch_cell w o).1) (sym e), ap (λ o. (watch_cell w o).0) (sym e)) accepted asks.1
-      (represents_watched s x t.weak w b.stands.represents asks.2) sound)
+  watch_starts : (r : ℕ) (due : Due) → AsksWatch (register_cell w.graph r) s due t → IsSound w.graph t
+      → Progress w (command.Weak (weak_command.Watch r)) w.graph t due []
+  watch_starts r due asks sound =
+      let x = register_cell w.graph r in
+      let is = represents_watch x due s t w (watch_cell w x).0 b.stands.represents asks refl in
+      subst (λ d. Progress w (command.Weak (weak_command.Watch r)) w.graph t d []) (sym is.1)
+      (weak_line (weak_command.Watch r) (watch_cell w x).1 (watch_cell w x).0 (refl, refl) (watch_plain w x)
+      (watch_keeps s t x due asks) is.0 sound)
 
-  is_it_watched : (x : Name) (v : Bool) → is_watched s.weak x ≡ v → set.contains w.weak.watched x ≡ v
-  is_it_watched x true e = (b.stands.represents.watched_are x).1 e
-  is_it_watched x false e = go (set.contains w.weak.watched x) refl
-    where
-      go : (v : Bool) → set.contains w.weak.watched x ≡ v → v ≡ false
-      go true at = absurd (cc (e, (b.stands.represents.watched_are x).0 at))
-      go false at = refl
-
-  unwatch_starts : (r : ℕ) (x : Option Name) → register_cell w.graph r ≡ x → (due : Due) → AsksUnwatch x s due t
-      → IsSound w.graph t → Progress w (command.Weak (weak_command.Unwatch r)) w.graph t due []
-  unwatch_starts r None e due asks sound =
-      subst (λ d. Progress w (command.Weak (weak_command.Unwatch r)) w.graph t d []) (sym asks.0)
-      (no_change (command.Weak (weak_command.Unwatch r)) (answer.Refused refusal.Empty)
-      (refl, (ap (λ o. (unwatch_cell w o).1) (sym e), ap (λ o. (unwatch_cell w o).0) (sym e)))
-      (refused_plain refusal.Empty) asks.1 sound)
-  unwatch_starts r (Some x) e due (inl (was, is, same)) sound =
-      let out = ap (λ (v : Bool). cond {A = World × Reply} v (defs.without_watched w x, answer.Accepted)
-      (w, answer.Absent)) (is_it_watched x false was) in
-      subst (λ d. Progress w (command.Weak (weak_command.Unwatch r)) w.graph t d []) (sym is)
-      (no_change (command.Weak (weak_command.Unwatch r)) answer.Absent (
-        refl,
-        (
-          sym (ap (λ o. (unwatch_cell w o).1) e ∙ ap (λ p. p.1) out),
-          sym (ap (λ o. (unwatch_cell w o).0) e ∙ ap (λ p. p.0) out),
-        ),
-      )
-      (record { line = refl; small = tt }) same sound)
-  unwatch_starts r (Some x) e due (inr (was, is, same, n)) sound =
-      let out = ap (λ (v : Bool). cond {A = World × Reply} v (defs.without_watched w x, answer.Accepted)
-      (w, answer.Absent)) (is_it_watched x true was) in
-      subst (λ d. Progress w (command.Weak (weak_command.Unwatch r)) w.graph t d []) (sym is)
-      (weak_line (weak_command.Unwatch r) answer.Accepted (defs.without_watched w x) t.weak (
-        sym (ap (λ o. (unwatch_cell w o).1) e ∙ ap (λ p. p.1) out),
-        sym (ap (λ o. (unwatch_cell w o).0) e ∙ ap (λ p. p.0) out),
-      ) accepted same
-      (represents_unwatched s x t.weak w b.stands.represents n) sound)
+  unwatch_starts : (r : ℕ) (due : Due) → AsksUnwatch (register_cell w.graph r) s due t → IsSound w.graph t
+      → Progress w (command.Weak (weak_command.Unwatch r)) w.graph t due []
+  unwatch_starts r due asks sound =
+      let x = register_cell w.graph r in
+      let is = represents_unwatch x due s t w (unwatch_cell w x).0 b.stands.represents asks refl in
+      subst (λ d. Progress w (command.Weak (weak_command.Unwatch r)) w.graph t d []) (sym is.1)
+      (weak_line (weak_command.Unwatch r) (unwatch_cell w x).1 (unwatch_cell w x).0 (refl, refl) (unwatch_plain w x)
+      (unwatch_keeps s t x due asks) is.0 sound)
 
   named_same : (q : ℕ) → weak_cell w q ≡ weak_slot s.weak q
   named_same q = ap (λ xs. slice_index_or xs q None) b.stands.represents.slots_are
@@ -240,8 +227,11 @@ module _ (s t : Shown) (w : World) (b : StandsBetween w.graph s w) where
       → Progress w (command.Weak c) (graph_after w.graph s (command.Weak c)) t due []
   weak_starts places (weak_command.Weaken q r) due asks sound =
       subst (λ d. Progress w (command.Weak (weak_command.Weaken q r)) w.graph t d []) (sym asks.0)
-      (weak_line (weak_command.Weaken q r) answer.Accepted (defs.with_weak_slot w q (register_cell w.graph r)) _
-      (refl, refl) accepted asks.1 (represents_slot s q (register_cell w.graph r) w b.stands.represents) sound)
+      (weak_line (weak_command.Weaken q r) answer.Accepted (defs.with_weak_slot w q (register_cell w.graph r))
+      (refl, refl) (record { line = refl; small = tt }) (ap (λ (u : Shown). u.stage) asks.1,
+      ap (λ (u : Shown). u.out) asks.1, ap (λ (u : Shown). u.told) asks.1)
+      (represents_weaken q r answer.Accepted due s t w (defs.with_weak_slot w q (register_cell w.graph r))
+      b.stands.represents asks (refl, refl)) sound)
   weak_starts places (weak_command.Deref r q) due asks sound =
       subst (λ d. Progress w (command.Weak (weak_command.Deref r q)) (with_register w.graph r (weak_slot s.weak q)) t d [])
       (sym asks.0)
@@ -249,9 +239,9 @@ module _ (s t : Shown) (w : World) (b : StandsBetween w.graph s w) where
       (reply_text (named_or_null x) ∷ []) []) (named_same q)
       (deref_starts places r q (subst (λ x. TakesNamed w.graph r x s t) (sym (named_same q)) asks.1)
       (subst (λ x. IsSound (with_register w.graph r x) t) (sym (named_same q)) sound)))
-  weak_starts places (weak_command.Watch r) due asks sound = watch_starts r (register_cell w.graph r) refl due asks sound
+  weak_starts places (weak_command.Watch r) due asks sound = watch_starts r due asks sound
   weak_starts places (weak_command.Unwatch r) due asks sound =
-      unwatch_starts r (register_cell w.graph r) refl due asks sound
+      unwatch_starts r due asks sound
 
   -- colours and dumps
   colours_start : (due : Due) → ListsGray s due → t ≡ s → IsSound w.graph t → Progress w command.Colours w.graph t due []
@@ -381,7 +371,7 @@ module _ (s t : Shown) (w : World) (b : StandsBetween w.graph s w) where
       subst (λ d. Progress w (command.Slice n) w.graph t d []) (sym is) (record {
         begun = w;
         of = slice;
-        running = running_of s w b.stands.represents some;
+        running = running_world b.stands.represents some;
         fits = λ m e. omega arith;
         so_far = of_same (Some n) same some;
       })
@@ -396,7 +386,7 @@ module _ (s t : Shown) (w : World) (b : StandsBetween w.graph s w) where
       subst (λ d. Progress w command.Finish w.graph t d []) (sym is) (record {
         begun = w;
         of = finish;
-        running = running_of s w b.stands.represents some;
+        running = running_world b.stands.represents some;
         fits = λ m e. omega arith;
         so_far = of_same None same some;
       })
@@ -411,7 +401,7 @@ module _ (s t : Shown) (w : World) (b : StandsBetween w.graph s w) where
   reset_starts due (inl (some, is)) same sound =
       subst (λ d. Progress w command.Reset w.graph t d []) (sym is) (
         refl,
-        running_of s w b.stands.represents some,
+        running_world b.stands.represents some,
         subst (λ u. HasSweptSoFar w w.graph u []) (sym same) (record {
           sweeps = [];
           now = w;

@@ -11,7 +11,6 @@ use Rattle.colour_defs.specs.Lawful.{AreLawfulUnits, HasTally, IsLawfulReport, I
 use Rattle.colour_defs.specs.Units.{Tally}
 use Rattle.colour_defs.specs.World.{World}
 use Rattle.colour_defs.proofs.Lists.{length_push}
-use Rattle.colour_defs.proofs.ValidReports.{report_valid}
 use Rattle.trace_lang.specs.Texts.{name_words, report_text, told_text}
 use Rattle.judge.specs.Positions.{HasCounted, StandsIn}
 use Rattle.judge.specs.Replies.{Counts, IsUncounted}
@@ -20,9 +19,11 @@ use Rattle.judge.specs.Sound.{IsSound}
 use Rattle.judge.specs.Stages as judged
 use Rattle.judge.specs.Stages.{IsReported, IsReportedLine, IsToldLine, Shown, collecting, is_prepared}
 use Rattle.judge.specs.Transcripts.{lines_of_report, lines_of_reports, told_lines}
-use Rattle.judge.proofs.LiveReports.{report_live}
-use Rattle.judge.proofs.OverBoth.{over_back, over_or, over_to, represents_told}
-use Rattle.judge.proofs.ReportWorlds.{for_of, report_made, still_counted, with_none}
+use Rattle.judge.proofs.Idling.{over_shown, over_world}
+use Rattle.judge.proofs.Lawfulness.{laws_report}
+use Rattle.judge.proofs.OverBoth.{over_or}
+use Rattle.judge.proofs.Reweak.{represents_told}
+use Rattle.judge.proofs.ReportWorlds.{report_made, still_counted, with_none}
 use Rattle.judge.proofs.Transcribing.{flat_more, lines_both, units_more}
 use Rattle.judge.proofs.WorldForms.{finished_lawful, finished_represents, finished_world}
 
@@ -65,8 +66,7 @@ module _ (begun : World) (g : GraphState) (s t : Shown) (reports : ℕ) (part : 
         now = h.now;
         state = h.state;
         stands = record {
-          represents = subst (λ u. Represents g u h.now) (sym same)
-              (represents_told s [] h.now h.stands.represents);
+          represents = represents_told g s t h.now h.stands.represents same;
           laws = h.stands.laws;
           sound = sound;
         };
@@ -146,7 +146,7 @@ module _ (begun : World) (g : GraphState) (s t : Shown) (reports more : ℕ) (pa
         → reports ≡ length units + length tail → (tally : Tally) → HasTally begun tally
         → HasCounted s now tally (flat_map (λ u. u) units ++ tail) → Next
     report_at units (x ∷ []) now (ending u lu run nd lawful over) st lines count tally has counted =
-        absurd (done_due g s t r not_done (over_back s now st.represents over) b)
+        absurd (done_due g s t r not_done (over_shown st.represents over) b)
     report_at units (x ∷ (y ∷ ys)) now state st lines count tally has counted = elim state [ ]
     report_at units [] now (between lu goes) st lines count tally has counted =
         let e = st.represents.graph_is in
@@ -164,7 +164,7 @@ module _ (begun : World) (g : GraphState) (s t : Shown) (reports more : ℕ) (pa
             units = units;
             tail = made.said ∷ [];
             now = made.world;
-            state = ending now lu made.running made.not_done made.lawful (over_to t made.world stands.represents over);
+            state = ending now lu made.running made.not_done made.lawful (over_world stands.represents over);
             stands = stands;
             lines = said;
             count = one_more ∙ plus_one reports (length units) count;
@@ -177,8 +177,8 @@ module _ (begun : World) (g : GraphState) (s t : Shown) (reports more : ℕ) (pa
             tail = [];
             now = made.world;
             state = between (units_more begun units now (made.said ∷ []) made.world lu
-                (says made.running made.not_done made.lawful (λ o. not (over_back t made.world stands.represents o))))
-                (λ o. not (over_back t made.world stands.represents o));
+                (says made.running made.not_done made.lawful (λ o. not (over_shown stands.represents o))))
+                (λ o. not (over_shown stands.represents o));
             stands = stands;
             lines = said ∙ ap lines_of_reports (flat_now units made.said);
             count = one_more ∙ whole_one reports units made.said count;
@@ -214,41 +214,31 @@ module _ (begun : World) (g : GraphState) (s t : Shown) (reports more : ℕ) (pa
         → HasCounted s now tally (flat_map (λ u. u) units ++ tail) → Next
     done_at units (x ∷ (y ∷ ys)) now state st lines count tally has counted = elim state [ ]
     done_at units [] now (between lu goes) st lines count tally has counted =
-        absurd (goes (over_to s now st.represents b.over))
+        absurd (goes (over_world st.represents b.over))
     done_at units (r ∷ []) now (ending u lu run nd lawful over) st lines count tally has counted =
         let e = st.represents.graph_is in
         let at = subst (λ a. StandsIn a s now) (sym e) st in
-        let f = for_of s now at in
-        let v = finished_world s t now f b in
-        let done = finished_lawful s t now f b in
-        let before = part_is (flat_map (λ u. u) units ++ r ∷ []) lines in
+                let before = part_is (flat_map (λ u. u) units ++ r ∷ []) lines in
         let said = lines_now (flat_map (λ u. u) units ++ r ∷ []) report.Done before
         (ap (λ l. l ∷ []) (sym text) ∙ ap (λ ns. line ∷ told_lines ns) (sym (ap (λ (z : Shown). z.told) b.new_is ∙ none_told)))
         in
         record {
           units = units ++ (r ∷ report.Done ∷ []) ∷ [];
           tail = [];
-          now = finished_world s t now f b;
-          state = between (units_more begun units u (r ∷ report.Done ∷ []) (finished_world s t now f b) lu
-              (last run nd lawful (finished_lawful s t now f b))) (λ o. cc o.running);
+          now = finished_world s t now at b;
+          state = between (units_more begun units u (r ∷ report.Done ∷ []) (finished_world s t now at b) lu
+              (last run nd lawful (finished_lawful s t now at b))) (λ o. cc o.running);
           stands = record {
-            represents = subst (λ a. Represents a t (finished_world s t now f b)) e (finished_represents s t now f b);
-            laws = record {
-              valid = report_valid now report.Done (finished_world s t now f b) st.laws.valid
-                  (finished_lawful s t now f b);
-              live = report_live now report.Done (finished_world s t now f b) st.laws.valid st.laws.live
-                  (finished_lawful s t now f b);
-              registers = st.laws.registers;
-              slots = st.laws.slots;
-            };
+            represents = subst (λ a. Represents a t (finished_world s t now at b)) e (finished_represents s t now at b);
+            laws = laws_report now report.Done (finished_world s t now at b) st.laws (finished_lawful s t now at b);
             sound = sound;
           };
           lines = said ∙ ap lines_of_reports (flat_now units r);
           count = as_many ∙ whole_one reports units r count;
           tally = tally;
           has_tally = has;
-          counted = subst (λ rs. HasCounted t (finished_world s t now f b) tally rs) (flat_now units r)
-              (still_counted s t now (finished_world s t now f b) tally (flat_map (λ u. u) units ++ r ∷ []) report.Done 0
+          counted = subst (λ rs. HasCounted t (finished_world s t now at b) tally rs) (flat_now units r)
+              (still_counted s t now (finished_world s t now at b) tally (flat_map (λ u. u) units ++ r ∷ []) report.Done 0
               refl (ap is_prepared b.over.ended) (ap (λ (z : Shown). is_prepared z.stage) b.new_is)
               (ap (λ (z : Shown). z.tally) b.new_is ∙ with_none s.tally) counted);
         }
