@@ -7,7 +7,8 @@ use Rattle.gz_names.specs.declared.commands.Cmd.{Cmd}
 use Rattle.gz_names.specs.declared.replies.Reply.{Reply}
 use Rattle.gz_names.specs.declared.replies.Report.{Report}
 use Rattle.colour_defs.specs.Graph.{GraphState}
-use Rattle.colour_defs.specs.Lawful.{Answers, AreLawfulUnits, HasTally, IsRunning, Slices, with_spent, with_spent_preparing}
+use Rattle.colour_defs.specs.Lawful.{Answers, AreLawfulUnits, HasTally, IsRunning, Slices, with_spent}
+use Rattle.colour_defs.specs.Lawful.{with_spent_preparing}
 use Rattle.colour_defs.specs.Units.{MeetsUnitBound, Tally}
 use Rattle.colour_defs.specs.World.{IsIdle, World, first_tally}
 use Rattle.colour_defs.proofs.ValidRuns.{answer_valid}
@@ -63,8 +64,8 @@ counts_prepared s w (preparing zones) tally at e (inr p) =
           ∙ sym (ap (λ (t : Tally). t.spent) first),
     )
 
-counts_same : (s : Shown) (w : World) (tally : Tally) (rs : List Report) → IsAtStage s.stage s w → HasCounted s w tally rs
-    → (b : Bool) → is_prepared s.stage ≡ b → CountsAs b s.tally tally rs
+counts_same : (s : Shown) (w : World) (tally : Tally) (rs : List Report) → IsAtStage s.stage s w
+    → HasCounted s w tally rs → (b : Bool) → is_prepared s.stage ≡ b → CountsAs b s.tally tally rs
 counts_same s w tally rs at h true e = counts_prepared s w s.stage tally at e (h.prepared e).1
 counts_same s w tally rs at h false e = h.begun e
 
@@ -124,7 +125,8 @@ module _ (before : World) (g : GraphState) (s t : Shown) (most : Option ℕ) (re
 
   pub slice_ends : IsRunning before → (l : IsSliced most reports s line t) → HasUnitsSoFar before g s reports part
       → Ends l.number
-  slice_ends run l h = slice_at run l h.units h.tail h.now h.state h.stands h.lines h.count h.tally h.has_tally h.counted
+  slice_ends run l h =
+      slice_at run l h.units h.tail h.now h.state h.stands h.lines h.count h.tally h.has_tally h.counted
 
 -- the units of a whole collection
 module _ (begun : World) (g : GraphState) (s : Shown) (reports : ℕ) (part : List (List ℕ)) where

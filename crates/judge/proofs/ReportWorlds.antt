@@ -13,7 +13,8 @@ use Rattle.trace_lang.specs.Texts.{report_text}
 use Rattle.judge.specs.Positions.{HasCounted, StandsIn}
 use Rattle.judge.specs.Represents.{IsAtStage, Represents}
 use Rattle.judge.specs.Sound.{IsSound}
-use Rattle.judge.specs.Stages.{EndsGroup, Forms, IsReported, Shown, Stage, Starts, Sweeps, collecting, idle, is_prepared, preparing}
+use Rattle.judge.specs.Stages.{EndsGroup, Forms, IsReported, Shown, Stage, Starts, Sweeps, collecting, idle}
+use Rattle.judge.specs.Stages.{is_prepared, preparing}
 use Rattle.judge.specs.Transcripts.{lines_of_report, told_lines}
 use Rattle.judge.specs.Walks.{CatchUp}
 use Rattle.judge.proofs.Idling.{running_world}
@@ -72,8 +73,8 @@ started_made s t w st sound b told =
       running = running_world st.represents (λ e. cc (e, b.was));
       not_done = λ e. cc e;
       lawful = (zones_in b.zones, started_lawful s t w st b);
-      stands = stands_after t w (started_world s t w st b) report.Started s st (zones_in b.zones, started_lawful s t w st b)
-          (started_represents s t w st b) sound;
+      stands = stands_after t w (started_world s t w st b) report.Started s st
+          (zones_in b.zones, started_lawful s t w st b) (started_represents s t w st b) sound;
       lines = ap (λ ns. report_text report.Started ∷ told_lines ns)
           (sym (ap (λ (u : Shown). u.told) b.started.new_is ∙ told));
       counted = begun;
@@ -89,8 +90,8 @@ started_made s t w st sound b told =
         record {
           prepared = λ e. absurd (cc (e, now));
           begun = λ e. tally_now s t w st b ∙ sym (first was.1) ∙ with_none tally
-              ∙ ap (λ (rs : List Report). record tally { sweeps = tally.sweeps + sweeps_in (rs ++ report.Started ∷ []) })
-              (sym was.0);
+              ∙ ap (λ (rs : List Report).
+              record tally { sweeps = tally.sweeps + sweeps_in (rs ++ report.Started ∷ []) }) (sym was.0);
         }
       where
         first : HasTally w tally → tally ≡ first_tally w (prepared s t w st b).preparation

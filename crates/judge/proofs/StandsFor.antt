@@ -11,8 +11,9 @@ use Rattle.judge.specs.Represents.{Represents}
 use Rattle.judge.specs.Stages.{Shown}
 use Rattle.judge.specs.Starts.{IsInRegister, IsInSlot}
 
--- the same cells are present
-pub cell_of : {g : GraphState} (s : Shown) (w : World) → Represents g s w → (x : Name) → IsPresent w x → HasCell s.cells x
+-- presence is what the judge says
+pub cell_of : {g : GraphState} (s : Shown) (w : World) → Represents g s w → (x : Name) → IsPresent w x
+    → HasCell s.cells x
 cell_of s w r x p = sym (ap is_some (r.places_are x)) ∙ p
 
 pub present_of : {g : GraphState} (s : Shown) (w : World) → Represents g s w → (x : Name) → HasCell s.cells x

@@ -29,11 +29,13 @@ use Rattle.trace_lang.specs.Texts.{reply_text}
 use Rattle.judge.specs.Cells.{HasCell}
 use Rattle.judge.specs.Positions.{HasCounted, StandsBetween}
 use Rattle.judge.specs.Represents.{IsAtStage, LiesInPlace, Represents}
-use Rattle.judge.specs.Replies.{AreMade, Asks, AsksCompact, AsksUnwatch, AsksWatch, AsksWeak, Begins, Due, Dumps, GoesOn}
+use Rattle.judge.specs.Replies.{AreMade, Asks, AsksCompact, AsksUnwatch, AsksWatch, AsksWeak, Begins, Due, Dumps}
+use Rattle.judge.specs.Replies.{GoesOn}
 use Rattle.judge.specs.Replies.{IsRefusal, ListsGray, begun_due, graph_after, resets, units}
 use Rattle.judge.specs.Sound.{IsSound}
 use Rattle.judge.specs.Stages as judged
-use Rattle.judge.specs.Stages.{Changes, IsSettled, Obeys, Shown, Stage, TakesNamed, collecting, idle, is_prepared, preparing}
+use Rattle.judge.specs.Stages.{Changes, IsSettled, Obeys, Shown, Stage, TakesNamed, collecting, idle, is_prepared}
+use Rattle.judge.specs.Stages.{preparing}
 use Rattle.judge.specs.Transcripts.{told_lines}
 use Rattle.judge.specs.Weak.{weak_slot}
 use Rattle.judge.specs.declared.former.Change.{Change}
@@ -91,6 +93,9 @@ unwatch_plain w None = record { line = refl; small = tt }
 unwatch_plain w (Some x) = choose (λ (p : World × Reply). IsPlain p.1) (set.contains w.weak.watched x) _ _
     (λ _. record { line = refl; small = tt }) (λ _. record { line = refl; small = tt })
 
+refused_plain : (why : Refusal) → IsPlain (answer.Refused why)
+refused_plain why = record { line = refl; small = tt }
+
 module _ (s t : Shown) (w : World) (b : StandsBetween w.graph s w) where
   never_over : judged.IsOver s → ⊥
   never_over o = b.not_over (over_world b.stands.represents o)
@@ -121,15 +126,12 @@ module _ (s t : Shown) (w : World) (b : StandsBetween w.graph s w) where
       one_line c r w.graph w lawful plain (subst (λ u. Represents w.graph u w) (sym same) b.stands.represents) sound
       (ap (λ (u : Shown). u.stage) same) (ap (λ (u : Shown). u.out) same) (ap (λ (u : Shown). u.told) same) same_sizes
 
-  refused_plain : (why : Refusal) → IsPlain (answer.Refused why)
-  refused_plain why = record { line = refl; small = tt }
-
   quietly : ChangesNothing w [] w
   quietly = record { silent = refl; same = refl }
 
   -- a collection or a compaction is refused
-  to_begin : (zones : List ℕ) (Made : Type 0) → (((z : ℕ) → Contains zones z → z < w.graph.zones) → Made) → (why : Refusal)
-      → IsRefusal Made s.stage why → RefusesToBegin w zones [] (answer.Refused why) w
+  to_begin : (zones : List ℕ) (Made : Type 0) → (((z : ℕ) → Contains zones z → z < w.graph.zones) → Made)
+      → (why : Refusal) → IsRefusal Made s.stage why → RefusesToBegin w zones [] (answer.Refused why) w
   to_begin zones Made made why (inl h) =
       inl (ap answer.Refused h.0, running_world b.stands.represents h.1, quietly)
   to_begin zones Made made why (inr h) =
@@ -138,6 +140,7 @@ module _ (s t : Shown) (w : World) (b : StandsBetween w.graph s w) where
   idle_refusal : s.stage ≡ idle → RefusesIdle w [] (answer.Refused refusal.Idle) w
   idle_refusal e = (refl, idle_world b.stands.represents e, quietly)
 
+module _ (s t : Shown) (w : World) (b : StandsBetween w.graph s w) where
   -- units begin in a world
   tally_at : (u : Stage) → s.stage ≡ u → u ≢ idle → IsAtStage u s w → (tally : Tally) × HasTally w tally
       × HasCounted s w tally []
@@ -174,13 +177,14 @@ module _ (s t : Shown) (w : World) (b : StandsBetween w.graph s w) where
     counted = t.2;
   }
 
+module _ (s t : Shown) (w : World) (b : StandsBetween w.graph s w) where
   -- a command on the graph
   graph_starts : PlacesCells → (c : GraphCmd) → Obeys w.graph c s t → IsSound (step_of w.graph c).0 t
       → IsDueNow w (command.Graph c) (step_of w.graph c).0 t (reply_text (step_of w.graph c).1 ∷ []) []
   graph_starts places c obeys sound =
       let lies = places _ _ _ _ s t obeys.changes in
       let made = commanded c s t w b.stands obeys lies in
-      one_line (command.Graph c) (step_of w.graph c).1 (step_of w.graph c).0 made.0 (refl, made.1)
+      (one_line s t w b) (command.Graph c) (step_of w.graph c).1 (step_of w.graph c).0 made.0 (refl, made.1)
       (plain_step w.graph c) made.2 sound obeys.changes.stage_is obeys.changes.out_is obeys.changes.told_is
       (command_sizes w.graph c)
 
@@ -188,7 +192,8 @@ module _ (s t : Shown) (w : World) (b : StandsBetween w.graph s w) where
   weak_line : (c : WeakCmd) (r : Reply) (v : World) → WeakInWorld w c r v → IsPlain r → KeepsStage s t
       → Represents w.graph t v → IsSound w.graph t → IsDueNow w (command.Weak c) w.graph t (reply_text r ∷ []) []
   weak_line c r v lawful plain keeps rep sound =
-      one_line (command.Weak c) r w.graph v (refl, lawful) plain rep sound keeps.0 keeps.1 keeps.2 same_sizes
+      one_line s t w b (command.Weak c) r w.graph v (refl, lawful) plain rep sound keeps.0 keeps.1 keeps.2
+      (same_sizes s t w b)
 
   deref_starts : PlacesCells → (r q : ℕ) → TakesNamed w.graph r (weak_cell w q) s t
       → IsSound (with_register w.graph r (weak_cell w q)) t
@@ -197,7 +202,7 @@ module _ (s t : Shown) (w : World) (b : StandsBetween w.graph s w) where
   deref_starts places r q taken sound =
       let lies = places _ _ _ _ s t taken.changes in
       let made = derefed r q s t w b.stands taken lies in
-      one_line (command.Weak (weak_command.Deref r q)) (named_or_null (weak_cell w q))
+      (one_line s t w b) (command.Weak (weak_command.Deref r q)) (named_or_null (weak_cell w q))
       (with_register w.graph r (weak_cell w q)) made.0 (refl, made.1) (named_plain (weak_cell w q)) made.2 sound
       taken.changes.stage_is taken.changes.out_is taken.changes.told_is (take_sizes w.graph r (weak_cell w q))
 
@@ -228,12 +233,16 @@ module _ (s t : Shown) (w : World) (b : StandsBetween w.graph s w) where
   weak_starts places (weak_command.Weaken q r) due asks sound =
       subst (λ d. Progress w (command.Weak (weak_command.Weaken q r)) w.graph t d []) (sym asks.0)
       (weak_line (weak_command.Weaken q r) answer.Accepted (defs.with_weak_slot w q (register_cell w.graph r))
-      (refl, refl) (record { line = refl; small = tt }) (ap (λ (u : Shown). u.stage) asks.1,
-      ap (λ (u : Shown). u.out) asks.1, ap (λ (u : Shown). u.told) asks.1)
+      (refl, refl) (record { line = refl; small = tt }) (
+        ap (λ (u : Shown). u.stage) asks.1,
+        ap (λ (u : Shown). u.out) asks.1,
+        ap (λ (u : Shown). u.told) asks.1,
+      )
       (represents_weaken q r answer.Accepted due s t w (defs.with_weak_slot w q (register_cell w.graph r))
       b.stands.represents asks (refl, refl)) sound)
   weak_starts places (weak_command.Deref r q) due asks sound =
-      subst (λ d. Progress w (command.Weak (weak_command.Deref r q)) (with_register w.graph r (weak_slot s.weak q)) t d [])
+      subst (λ d.
+      Progress w (command.Weak (weak_command.Deref r q)) (with_register w.graph r (weak_slot s.weak q)) t d [])
       (sym asks.0)
       (subst (λ x. IsDueNow w (command.Weak (weak_command.Deref r q)) (with_register w.graph r x) t
       (reply_text (named_or_null x) ∷ []) []) (named_same q)
@@ -243,26 +252,29 @@ module _ (s t : Shown) (w : World) (b : StandsBetween w.graph s w) where
   weak_starts places (weak_command.Unwatch r) due asks sound =
       unwatch_starts r due asks sound
 
+module _ (s t : Shown) (w : World) (b : StandsBetween w.graph s w) where
   -- colours and dumps
-  colours_start : (due : Due) → ListsGray s due → t ≡ s → IsSound w.graph t → Progress w command.Colours w.graph t due []
+  colours_start : (due : Due) → ListsGray s due → t ≡ s → IsSound w.graph t
+      → Progress w command.Colours w.graph t due []
   colours_start due (inl (still, names, lists, is)) same sound =
       let black = b.stands.represents.black_are still in
       subst (λ d. Progress w command.Colours w.graph t d []) (sym is)
-      (no_change command.Colours (answer.Gray names)
+      (no_change s t w b command.Colours (answer.Gray names)
       (inl (
         names,
         refl,
         settled_world b.stands.represents b.stands.laws.valid still,
-        lists_same (λ x. HasCell s.cells x × (Contains s.black.names x → ⊥)) (λ x. IsPresent w x × (Has w.black x → ⊥)) names
+        lists_same (λ x. HasCell s.cells x × (Contains s.black.names x → ⊥))
+            (λ x. IsPresent w x × (Has w.black x → ⊥)) names
             (λ x h. ((present_is b.stands.represents x).1 h.0, λ k. h.1 ((black.names_are x).0 k)))
             (λ x h. ((present_is b.stands.represents x).0 h.0, λ k. h.1 ((black.names_are x).1 k))) lists,
-        quietly,
+        (quietly s t w b),
       ))
       (record { line = refl; small = tt }) same sound)
   colours_start due (inr (moves, is)) same sound =
       subst (λ d. Progress w command.Colours w.graph t d []) (sym is)
-      (no_change command.Colours (answer.Refused refusal.Marking)
-      (inr (refl, (λ k. moves (settled_stage b.stands.represents b.stands.laws.valid k)), quietly))
+      (no_change s t w b command.Colours (answer.Refused refusal.Marking)
+      (inr (refl, (λ k. moves (settled_stage b.stands.represents b.stands.laws.valid k)), (quietly s t w b)))
       (refused_plain refusal.Marking) same sound)
 
   dump_starts : (due : Due) → Dumps w.graph s due → t ≡ s → IsSound w.graph t → Progress w command.Dump w.graph t due []
@@ -273,7 +285,7 @@ module _ (s t : Shown) (w : World) (b : StandsBetween w.graph s w) where
         refl,
         settled_world b.stands.represents b.stands.laws.valid still,
         lists w (settled_rests b.stands.represents still),
-        quietly,
+        (quietly s t w b),
       ) in
       subst (λ d. Progress w command.Dump w.graph t d []) (sym is) (record {
         reports = [];
@@ -284,16 +296,17 @@ module _ (s t : Shown) (w : World) (b : StandsBetween w.graph s w) where
         stands = closing w.graph t w w command.Dump [] (answer.Dump lines) b.stands.laws lawful
             (subst (λ u. Represents w.graph u w) (sym same) b.stands.represents) sound
             (ap (λ (u : Shown). u.told) same ∙ b.none_told)
-            (still_open s t (ap (λ (u : Shown). u.stage) same) (ap (λ (u : Shown). u.out) same) never_over)
+            (still_open s t (ap (λ (u : Shown). u.stage) same) (ap (λ (u : Shown). u.out) same) (never_over s t w b))
             b.stands.laws.registers b.stands.laws.slots;
         lines = refl;
       })
   dump_starts due (inr (moves, is)) same sound =
       subst (λ d. Progress w command.Dump w.graph t d []) (sym is)
-      (no_change command.Dump (answer.Refused refusal.Marking)
-      (inr (refl, (λ k. moves (settled_stage b.stands.represents b.stands.laws.valid k)), quietly))
+      (no_change s t w b command.Dump (answer.Refused refusal.Marking)
+      (inr (refl, (λ k. moves (settled_stage b.stands.represents b.stands.laws.valid k)), (quietly s t w b)))
       (refused_plain refusal.Marking) same sound)
 
+module _ (s t : Shown) (w : World) (b : StandsBetween w.graph s w) where
   -- a collection begins
   zones_made : (zones : ZoneSet) → ((z : ℕ) → Contains (zones_in zones) z → z < w.graph.zones) → AreMade w.graph zones
   zones_made zones h z has = h z ((zones_in-has zones z).1 has)
@@ -303,9 +316,9 @@ module _ (s t : Shown) (w : World) (b : StandsBetween w.graph s w) where
       → Progress w (command.Gc zones) w.graph t due []
   gc_starts zones size due (inl (why, refuses, is, same)) sound =
       subst (λ d. Progress w (command.Gc zones) w.graph t d []) (sym is)
-      (no_change (command.Gc zones) (answer.Refused why)
-      (inr (to_begin (zones_in zones) (AreMade w.graph zones) (zones_made zones) why refuses)) (refused_plain why) same
-      sound)
+      (no_change s t w b (command.Gc zones) (answer.Refused why)
+      (inr (to_begin s t w b (zones_in zones) (AreMade w.graph zones) (zones_made zones) why refuses))
+      (refused_plain why) same sound)
   gc_starts zones size due (inr (idle_is, made, is, leaves, new_is)) sound =
       let begun = preparing_begun w.graph zones s t w b.stands.represents b.stands.laws.valid size.0 size.1 idle_is made
       leaves new_is in
@@ -327,9 +340,9 @@ module _ (s t : Shown) (w : World) (b : StandsBetween w.graph s w) where
       → Progress w (command.Collect zones) w.graph t due []
   collect_starts zones size due (inl (why, refuses, is, same)) sound =
       subst (λ d. Progress w (command.Collect zones) w.graph t d []) (sym is)
-      (no_change (command.Collect zones) (answer.Refused why)
-      (inr (to_begin (zones_in zones) (AreMade w.graph zones) (zones_made zones) why refuses)) (refused_plain why) same
-      sound)
+      (no_change s t w b (command.Collect zones) (answer.Refused why)
+      (inr (to_begin s t w b (zones_in zones) (AreMade w.graph zones) (zones_made zones) why refuses))
+      (refused_plain why) same sound)
   collect_starts zones size due (inr (idle_is, made, is, leaves, new_is)) sound =
       let begun = preparing_begun w.graph zones s t w b.stands.represents b.stands.laws.valid size.0 size.1 idle_is made
       leaves new_is in
@@ -361,9 +374,10 @@ module _ (s t : Shown) (w : World) (b : StandsBetween w.graph s w) where
         };
       })
 
+module _ (s t : Shown) (w : World) (b : StandsBetween w.graph s w) where
   -- units
   of_same : (most : Option ℕ) → t ≡ s → s.stage ≢ idle → HasUnitsSoFar w w.graph t 0 []
-  of_same most same some = subst (λ u. HasUnitsSoFar w w.graph u 0 []) (sym same) (no_units some)
+  of_same most same some = subst (λ u. HasUnitsSoFar w w.graph u 0 []) (sym same) (no_units s t w b some)
 
   slice_starts : (n : ℕ) (due : Due) → GoesOn (units (Some n) false 0) s.stage due → t ≡ s → IsSound w.graph t
       → Progress w (command.Slice n) w.graph t due []
@@ -377,7 +391,7 @@ module _ (s t : Shown) (w : World) (b : StandsBetween w.graph s w) where
       })
   slice_starts n due (inr (idle_is, is)) same sound =
       subst (λ d. Progress w (command.Slice n) w.graph t d []) (sym is)
-      (no_change (command.Slice n) (answer.Refused refusal.Idle) (inr (idle_refusal idle_is))
+      (no_change s t w b (command.Slice n) (answer.Refused refusal.Idle) (inr (idle_refusal s t w b idle_is))
       (refused_plain refusal.Idle) same sound)
 
   finish_starts : (due : Due) → GoesOn (units None false 0) s.stage due → t ≡ s → IsSound w.graph t
@@ -392,7 +406,8 @@ module _ (s t : Shown) (w : World) (b : StandsBetween w.graph s w) where
       })
   finish_starts due (inr (idle_is, is)) same sound =
       subst (λ d. Progress w command.Finish w.graph t d []) (sym is)
-      (no_change command.Finish (answer.Refused refusal.Idle) (inr (idle_refusal idle_is)) (refused_plain refusal.Idle)
+      (no_change s t w b command.Finish (answer.Refused refusal.Idle) (inr (idle_refusal s t w b idle_is))
+      (refused_plain refusal.Idle)
       same sound)
 
   -- a reset
@@ -414,7 +429,8 @@ module _ (s t : Shown) (w : World) (b : StandsBetween w.graph s w) where
       )
   reset_starts due (inr (idle_is, is)) same sound =
       subst (λ d. Progress w command.Reset w.graph t d []) (sym is)
-      (no_change command.Reset (answer.Refused refusal.Idle) (inr (idle_refusal idle_is)) (refused_plain refusal.Idle)
+      (no_change s t w b command.Reset (answer.Refused refusal.Idle) (inr (idle_refusal s t w b idle_is))
+      (refused_plain refusal.Idle)
       same sound)
 
   -- a compaction
@@ -422,32 +438,35 @@ module _ (s t : Shown) (w : World) (b : StandsBetween w.graph s w) where
       → Progress w (command.Compact zone) w.graph t due []
   compact_starts zone due (inl (why, refuses, is, same)) sound =
       subst (λ d. Progress w (command.Compact zone) w.graph t d []) (sym is)
-      (no_change (command.Compact zone) (answer.Refused why)
-      (inr (to_begin (zone ∷ []) (zone < w.graph.zones) (λ m. m zone (contains_head zone [])) why refuses))
+      (no_change s t w b (command.Compact zone) (answer.Refused why)
+      (inr (to_begin s t w b (zone ∷ []) (zone < w.graph.zones) (λ m. m zone (contains_head zone [])) why refuses))
       (refused_plain why) same sound)
   compact_starts zone due (inr (idle_is, made, moved, given, is, packs)) sound =
       let c = compacted w.graph zone s t moved given w b.stands.represents idle_is packs in
       subst (λ d. Progress w (command.Compact zone) w.graph t d []) (sym is)
-      (one_line (command.Compact zone) (answer.Compacted moved given) w.graph c.0 (inl (moved, given, refl, refl, c.1))
+      (one_line s t w b (command.Compact zone) (answer.Compacted moved given) w.graph c.0
+      (inl (moved, given, refl, refl, c.1))
       (record { line = refl; small = tt }) c.2 sound (ap (λ (u : Shown). u.stage) packs.new_is)
-      (ap (λ (u : Shown). u.out) packs.new_is) (ap (λ (u : Shown). u.told) packs.new_is) same_sizes)
+      (ap (λ (u : Shown). u.out) packs.new_is) (ap (λ (u : Shown). u.told) packs.new_is) (same_sizes s t w b))
 
+module _ (s t : Shown) (w : World) (b : StandsBetween w.graph s w) where
   -- any command
   starts_at : PlacesCells → (text : List ℕ) (c : Cmd) → Spells text c → (due : Due) → Asks w.graph s c due t
       → IsSound (graph_after w.graph s c) t → Progress w c (graph_after w.graph s c) t due []
   starts_at places text (command.Graph c) spells due (is, obeys) sound =
-      subst (λ d. Progress w (command.Graph c) (step_of w.graph c).0 t d []) (sym is) (graph_starts places c obeys sound)
+      subst (λ d. Progress w (command.Graph c) (step_of w.graph c).0 t d []) (sym is)
+      (graph_starts s t w b places c obeys sound)
   starts_at places text (command.Gc zones) spells due asks sound =
-      gc_starts zones (spelled_zones text (command.Gc zones) zones spells (inl refl)) due asks sound
-  starts_at places text (command.Slice n) spells due (goes, same) sound = slice_starts n due goes same sound
-  starts_at places text command.Finish spells due (goes, same) sound = finish_starts due goes same sound
+      gc_starts s t w b zones (spelled_zones text (command.Gc zones) zones spells (inl refl)) due asks sound
+  starts_at places text (command.Slice n) spells due (goes, same) sound = slice_starts s t w b n due goes same sound
+  starts_at places text command.Finish spells due (goes, same) sound = finish_starts s t w b due goes same sound
   starts_at places text (command.Collect zones) spells due asks sound =
-      collect_starts zones (spelled_zones text (command.Collect zones) zones spells (inr refl)) due asks sound
-  starts_at places text command.Colours spells due (lists, same) sound = colours_start due lists same sound
-  starts_at places text command.Dump spells due (dumps, same) sound = dump_starts due dumps same sound
-  starts_at places text command.Reset spells due (goes, same) sound = reset_starts due goes same sound
-  starts_at places text (command.Weak c) spells due asks sound = weak_starts places c due asks sound
-  starts_at places text (command.Compact zone) spells due asks sound = compact_starts zone due asks sound
+      collect_starts s t w b zones (spelled_zones text (command.Collect zones) zones spells (inr refl)) due asks sound
+  starts_at places text command.Colours spells due (lists, same) sound = colours_start s t w b due lists same sound
+  starts_at places text command.Dump spells due (dumps, same) sound = dump_starts s t w b due dumps same sound
+  starts_at places text command.Reset spells due (goes, same) sound = reset_starts s t w b due goes same sound
+  starts_at places text (command.Weak c) spells due asks sound = weak_starts s t w b places c due asks sound
+  starts_at places text (command.Compact zone) spells due asks sound = compact_starts s t w b zone due asks sound
 
 -- a command that the judge has read, in the world before it
 pub starts : PlacesCells → (g : GraphState) (s t : Shown) (w : World) → StandsBetween g s w → (text : List ℕ) (c : Cmd)

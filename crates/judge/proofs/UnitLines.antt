@@ -153,7 +153,8 @@ module _ (begun : World) (g : GraphState) (s t : Shown) (reports more : ℕ) (pa
         let made = report_made s t now r not_done (subst (λ a. StandsIn a s now) (sym e) st)
         (subst (λ a. IsSound a t) (sym e) sound) (subst (λ a. IsReported a s r t) (sym e) b) none_told in
         let stands = subst (λ a. StandsIn a t made.world) e made.stands in
-        let before = part_is (flat_map (λ u. u) units) (lines ∙ ap lines_of_reports (append-nil (flat_map (λ u. u) units)))
+        let before = part_is (flat_map (λ u. u) units)
+        (lines ∙ ap lines_of_reports (append-nil (flat_map (λ u. u) units)))
         in
         let said = lines_now (flat_map (λ u. u) units) made.said before (made.lines ∙ ap (λ l. l ∷ told_lines t.told)
         (sym text)) in
@@ -218,9 +219,10 @@ module _ (begun : World) (g : GraphState) (s t : Shown) (reports more : ℕ) (pa
     done_at units (r ∷ []) now (ending u lu run nd lawful over) st lines count tally has counted =
         let e = st.represents.graph_is in
         let at = subst (λ a. StandsIn a s now) (sym e) st in
-                let before = part_is (flat_map (λ u. u) units ++ r ∷ []) lines in
+        let before = part_is (flat_map (λ u. u) units ++ r ∷ []) lines in
         let said = lines_now (flat_map (λ u. u) units ++ r ∷ []) report.Done before
-        (ap (λ l. l ∷ []) (sym text) ∙ ap (λ ns. line ∷ told_lines ns) (sym (ap (λ (z : Shown). z.told) b.new_is ∙ none_told)))
+        (ap (λ l. l ∷ []) (sym text)
+        ∙ ap (λ ns. line ∷ told_lines ns) (sym (ap (λ (z : Shown). z.told) b.new_is ∙ none_told)))
         in
         record {
           units = units ++ (r ∷ report.Done ∷ []) ∷ [];
@@ -238,8 +240,8 @@ module _ (begun : World) (g : GraphState) (s t : Shown) (reports more : ℕ) (pa
           tally = tally;
           has_tally = has;
           counted = subst (λ rs. HasCounted t (finished_world s t now at b) tally rs) (flat_now units r)
-              (still_counted s t now (finished_world s t now at b) tally (flat_map (λ u. u) units ++ r ∷ []) report.Done 0
-              refl (ap is_prepared b.over.ended) (ap (λ (z : Shown). is_prepared z.stage) b.new_is)
+              (still_counted s t now (finished_world s t now at b) tally (flat_map (λ u. u) units ++ r ∷ [])
+              report.Done 0 refl (ap is_prepared b.over.ended) (ap (λ (z : Shown). is_prepared z.stage) b.new_is)
               (ap (λ (z : Shown). z.tally) b.new_is ∙ with_none s.tally) counted);
         }
       where

@@ -1,5 +1,6 @@
 -- As a group ends, the judge stands for a world in which it has ended lawfully.
-use Rattle.std.proofs.Common.{◌≡◌, ◌↔◌, ◌∙◌, ◌++◌, inl, inr, ℕ, Bool, true, false, cond, List, [], ◌∷◌, Option, Some, None}
+use Rattle.std.proofs.Common.{◌≡◌, ◌↔◌, ◌∙◌, ◌++◌, inl, inr, ℕ, Bool, true, false, cond, List, [], ◌∷◌, Option, Some}
+use Rattle.std.proofs.Common.{None}
 use Rattle.std.proofs.Common.{Contains, ap, is_some, map, refl, subst, sym, eqb}
 use Rattle.std.proofs.lemmas.List.Elements.{Contains-append_cases, Contains-append_left, Contains-append_right}
 use Rattle.std.specs.BTreeMap as tree
@@ -156,7 +157,8 @@ module _ (s t : Shown) (w : World) (f : StandsIn w.graph s w) (group : ZoneSet) 
   white_are : (x : Name) (p : ℕ × ℕ) → Contains white (x, p)
       ↔ (IsWhiteOf w k (zones_in group) x × (finite.get w.places x ≡ Some p))
   white_are x p = (
-    λ c. let g = gone_was (λ y. finite.get w.places y) (λ y. tree.get order_of t.cells y) (finite.keys w.places) x p c in
+    λ c. let g = gone_was (λ y. finite.get w.places y) (λ y. tree.get order_of t.cells y) (finite.keys w.places) x p c
+        in
         let here : HasCell s.cells x = ap is_some (sym (f.represents.places_are x) ∙ g.0) in
         (white_to x here (white_gone x here g.1), g.0),
     λ h. gone_has (λ y. finite.get w.places y) (λ y. tree.get order_of t.cells y) (finite.keys w.places) x p
@@ -230,8 +232,8 @@ module _ (s t : Shown) (w : World) (f : StandsIn w.graph s w) (group : ZoneSet) 
       ∙ ap (λ r. collecting e.ends.zones e.ends.after (Some r)) (none_left e.ends.rest refl none)) h)).1
 
   black_stays : (x : Name) → BlackClosure k x → IsPresent ended_world x
-  black_stays x b = stays x ((f.laws.live.marking k ending.collection_is some_marking).live x (black_in_live w k marks x b))
-      (λ h. h.1 ((found.live_are x).0 (black_in_live w k marks x b)))
+  black_stays x b = let live = f.laws.live.marking k ending.collection_is some_marking in
+      stays x (live.live x (black_in_live w k marks x b)) (λ h. h.1 ((found.live_are x).0 (black_in_live w k marks x b)))
 
   black_are : zones_without k.marking (zones_in group) ≡ [] → (x : Name)
       → Has ended_world.black x ↔ (BlackClosure k x × IsPresent ended_world x)

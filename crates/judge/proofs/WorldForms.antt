@@ -26,22 +26,23 @@ module _ (s t : Shown) (w : World) (f : StandsIn w.graph s w) (groups : List Zon
       let same : c.collection ≡ stands.0 = cc (c.collection_is, stands.1) in
       ap (λ (k : Collection). k.groups) (sym same) ∙ c.groups_are
 
+  abbrev formed_world : World
+  formed_world = record w { collection = Some (record stands.0 { groups = Some (map zones_in groups) }) }
+
   -- there is a world after the groups are formed, for which the judge stands
   pub forming : (v : World) × FormsGroups w (map zones_in groups) v × (v.graph ≡ w.graph) × Represents w.graph t v
   forming =
-      let lawful : FormsGroups w (map zones_in groups)
-      (record w { collection = Some (record stands.0 { groups = Some (map zones_in groups) }) }) = record {
+      let lawful : FormsGroups w (map zones_in groups) formed_world = record {
         collection = stands.0;
         running = stands.1;
         none_yet = none_yet;
         lawful = fs.lawful w stands.0 stands.2;
         world_is = refl;
       } in (
-        record w { collection = Some (record stands.0 { groups = Some (map zones_in groups) }) },
+        formed_world,
         lawful,
         refl,
-        represents_forms w.graph groups (map zones_in groups) s t w
-            (record w { collection = Some (record stands.0 { groups = Some (map zones_in groups) }) }) f fs up lawful refl,
+        represents_forms w.graph groups (map zones_in groups) s t w formed_world f fs up lawful refl,
       )
 
 module _ (s t : Shown) (w : World) (f : StandsIn w.graph s w) (fs : judged.Finishes s t) where

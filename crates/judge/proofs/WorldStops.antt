@@ -1,5 +1,6 @@
 -- As a collection is given up, the judge stands for a world in which this came lawfully.
-use Rattle.std.proofs.Common.{◌≡◌, ◌⊎◌, ◌↔◌, ◌∙◌, inl, inr, ℕ, List, [], ◌∷◌, Option, Some, None, Contains, ap, refl, subst, sym}
+use Rattle.std.proofs.Common.{◌≡◌, ◌⊎◌, ◌↔◌, ◌∙◌, inl, inr, ℕ, List, [], ◌∷◌, Option, Some, None, Contains, ap, refl}
+use Rattle.std.proofs.Common.{subst, sym}
 use Rattle.gz_names.specs.Zones.{zones_in}
 use Rattle.gz_names.specs.declared.names.Name.{Name}
 use Rattle.gz_names.specs.declared.zone_sets.ZoneSet.{ZoneSet}

@@ -38,12 +38,13 @@ kept_has t (y ∷ ys) x c e = go (λ h. kept_has t ys x h e) (t y) refl (contain
     go rest false is (inl same) = absurd (cc (is, e, ap t same))
     go rest false is (inr h) = rest h
 
-pub lists_same : (P Q : Name → Type 0) (xs : List Name) → ((x : Name) → P x → Q x) → ((x : Name) → Q x → P x) → Lists P xs
-    → Lists Q xs
+pub lists_same : (P Q : Name → Type 0) (xs : List Name) → ((x : Name) → P x → Q x) → ((x : Name) → Q x → P x)
+    → Lists P xs → Lists Q xs
 lists_same P Q xs h k l =
     record { ascending = l.ascending; has = λ x. (λ c. h x ((l.has x).0 c), λ q. (l.has x).1 (k x q)) }
 
-module _ (s t : Shown) (w : World) (f : StandsIn w.graph s w) (arena : ℕ) (freed : List Name) (sw : Sweeps s arena freed t) where
+module _ (s t : Shown) (w : World) (f : StandsIn w.graph s w) (arena : ℕ) (freed : List Name)
+    (sw : Sweeps s arena freed t) where
   abbrev pub swept_world : World
   swept_world = record w {
     out = sw.rest;
@@ -65,7 +66,8 @@ module _ (s t : Shown) (w : World) (f : StandsIn w.graph s w) (arena : ℕ) (fre
       go true e = absurd (apart (eqb-true n arena e))
       go false e = refl
 
-  pub white_left : (x : Name) (p : ℕ × ℕ) → Contains swept_world.white (x, p) ↔ (Contains w.white (x, p) × (p.0 ≢ arena))
+  white_left : (x : Name) (p : ℕ × ℕ)
+      → Contains swept_world.white (x, p) ↔ (Contains w.white (x, p) × (p.0 ≢ arena))
   white_left x p = (
     λ c. let h = kept_was (λ e. not (eqb e.1.0 arena)) w.white (x, p) c in (h.0, other p.0 h.1),
     λ h. kept_has (λ e. not (eqb e.1.0 arena)) w.white (x, p) h.0 (of_other p.0 h.1),
