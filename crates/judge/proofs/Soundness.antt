@@ -207,7 +207,8 @@ module _ (lines : List (List ℕ)) (g : GraphState) (s t : Shown) (line : List �
         of = p.of;
         running = p.running;
         fits = fits;
-        so_far = line_next p.begun g s t reports more a.part line sound reported counts p.so_far;
+        so_far = line_next p.begun (record { graph = g; old = s; new = t; part = a.part; line = line }) reports more sound
+            reported counts p.so_far;
       }))
   units_next most collects reports a sound next (inr (l, is)) =
       subst (λ n. UpTo (lines ++ line ∷ []) g t n) (sym is) (last_next most collects reports a sound l)

@@ -56,22 +56,38 @@ told_is (x ∷ xs) line e =
     let same : codes "told" ++ name_words (x ∷ xs) ≡ line = cc e in
     (ap (λ l. l ∷ []) same, inr (_, sym same))
 
-module _ (begun : World) (g : GraphState) (s t : Shown) (reports : ℕ) (part : List (List ℕ)) (line : List ℕ) where
-  told_next : (more : ℕ) → HasUnitsSoFar begun g s reports part → IsSound g t → IsToldLine s line t
-      → Counts reports line more → HasUnitsSoFar begun g t more (part ++ line ∷ [])
+-- a line that is read, the lines of its answer before it, and what is shown before it and after it
+pub record Reading : Type 0 where
+  pub graph : GraphState
+  pub old : Shown
+  pub new : Shown
+  pub part : List (List ℕ)
+  pub line : List ℕ
+
+-- what an answer with units has written so far, without the line that is read, and with it
+abbrev pub HasUnitsBefore : World → Reading → ℕ → Type 0
+HasUnitsBefore begun n reports = HasUnitsSoFar begun n.graph n.old reports n.part
+
+abbrev pub HasUnitsThen : World → Reading → ℕ → Type 0
+HasUnitsThen begun n more = HasUnitsSoFar begun n.graph n.new more (n.part ++ n.line ∷ [])
+
+-- the line that tells watched cells
+module _ (begun : World) (n : Reading) (reports : ℕ) where
+  told_next : (more : ℕ) → HasUnitsBefore begun n reports → IsSound n.graph n.new → IsToldLine n.old n.line n.new
+      → Counts reports n.line more → HasUnitsThen begun n more
   told_next more h sound (text, same) counts =
-      let is = told_is s.told line text in record {
+      let is = told_is n.old.told n.line text in
+      record {
         units = h.units;
         tail = h.tail;
         now = h.now;
         state = h.state;
         stands = record {
-          represents = represents_told g s t h.now h.stands.represents same;
+          represents = represents_told n.graph n.old n.new h.now h.stands.represents same;
           laws = h.stands.laws;
           sound = sound;
         };
-        lines = append-nil_told (ap (λ (u : Shown). u.told) same)
-            ∙ ap (λ ls. part ++ ls) (sym is.0) ∙ h.lines;
+        lines = all_said (ap (λ (u : Shown). u.told) same) ∙ ap (λ ls. n.part ++ ls) (sym is.0) ∙ h.lines;
         count = still (is.1) ∙ h.count;
         tally = h.tally;
         has_tally = h.has_tally;
@@ -79,10 +95,10 @@ module _ (begun : World) (g : GraphState) (s t : Shown) (reports : ℕ) (part : 
             (record { prepared = h.counted.prepared; begun = h.counted.begun });
       }
     where
-      append-nil_told : t.told ≡ [] → (part ++ line ∷ []) ++ told_lines t.told ≡ part ++ line ∷ []
-      append-nil_told e = ap (λ ns. (part ++ line ∷ []) ++ told_lines ns) e ∙ append-nil (part ++ line ∷ [])
+      all_said : n.new.told ≡ [] → (n.part ++ n.line ∷ []) ++ told_lines n.new.told ≡ n.part ++ n.line ∷ []
+      all_said e = ap (λ ns. (n.part ++ n.line ∷ []) ++ told_lines ns) e ∙ append-nil (n.part ++ n.line ∷ [])
 
-      still : IsUncounted line → more ≡ reports
+      still : IsUncounted n.line → more ≡ reports
       still un = elim counts [ inl c ↦ c.1 | inr c ↦ absurd (c.0 un) ]
 
 -- a report but `done` is counted
@@ -116,14 +132,34 @@ done_due g s t (report.Swept arena freed) n o b = cc (o.none_out, b.first)
 done_due g s t report.Done n o b = n refl
 done_due g s t (report.Stopped zones) n o b = b
 
-module _ (begun : World) (g : GraphState) (s t : Shown) (reports more : ℕ) (part : List (List ℕ)) (line : List ℕ)
-    (sound : IsSound g t) (none_told : s.told ≡ []) (counts : Counts reports line more) where
+-- the line is no line that tells watched cells
+pub record IsNext (n : Reading) (reports more : ℕ) : Type 0 where
+  pub sound : IsSound n.graph n.new
+  pub none_told : n.old.told ≡ []
+  pub counts : Counts reports n.line more
+
+module _ (begun : World) (n : Reading) (reports more : ℕ) (is : IsNext n reports more) where
+  abbrev g : GraphState
+  g = n.graph
+
+  abbrev s : Shown
+  s = n.old
+
+  abbrev t : Shown
+  t = n.new
+
+  abbrev part : List (List ℕ)
+  part = n.part
+
+  abbrev line : List ℕ
+  line = n.line
+
   abbrev Next : Type 0
-  Next = HasUnitsSoFar begun g t more (part ++ line ∷ [])
+  Next = HasUnitsThen begun n more
 
   -- the lines so far, where none is due that tells watched cells
   part_is : (rs : List Report) → part ++ told_lines s.told ≡ lines_of_reports rs → part ≡ lines_of_reports rs
-  part_is rs e = sym (append-nil part) ∙ ap (λ ns. part ++ told_lines ns) (sym none_told) ∙ e
+  part_is rs e = sym (append-nil part) ∙ ap (λ ns. part ++ told_lines ns) (sym is.none_told) ∙ e
 
   lines_now : (rs : List Report) (said : Report) → part ≡ lines_of_reports rs
       → lines_of_report said ≡ line ∷ told_lines t.told
@@ -136,7 +172,7 @@ module _ (begun : World) (g : GraphState) (s t : Shown) (reports more : ℕ) (pa
   -- a report but `done`
   module _ (r : Report) (not_done : r ≢ report.Done) (text : line ≡ report_text r) (b : IsReported g s r t) where
     one_more : more ≡ reports + 1
-    one_more = elim counts [
+    one_more = elim is.counts [
       | inl c ↦ absurd (counted_line r not_done (subst IsUncounted text c.0))
       | inr c ↦ c.1
     ]
@@ -151,7 +187,7 @@ module _ (begun : World) (g : GraphState) (s t : Shown) (reports more : ℕ) (pa
     report_at units [] now (between lu goes) st lines count tally has counted =
         let e = st.represents.graph_is in
         let made = report_made s t now r not_done (subst (λ a. StandsIn a s now) (sym e) st)
-        (subst (λ a. IsSound a t) (sym e) sound) (subst (λ a. IsReported a s r t) (sym e) b) none_told in
+        (subst (λ a. IsSound a t) (sym e) is.sound) (subst (λ a. IsReported a s r t) (sym e) b) is.none_told in
         let stands = subst (λ a. StandsIn a t made.world) e made.stands in
         let before = part_is (flat_map (λ u. u) units)
         (lines ∙ ap lines_of_reports (append-nil (flat_map (λ u. u) units)))
@@ -201,13 +237,13 @@ module _ (begun : World) (g : GraphState) (s t : Shown) (reports more : ℕ) (pa
         flat_now us x = sym (flat_more (λ (u : List Report). u) us (x ∷ []))
             ∙ sym (append-nil (flat_map (λ (u : List Report). u) (us ++ (x ∷ []) ∷ [])))
 
-    pub report_next : HasUnitsSoFar begun g s reports part → Next
+    pub report_next : HasUnitsBefore begun n reports → Next
     report_next h = report_at h.units h.tail h.now h.state h.stands h.lines h.count h.tally h.has_tally h.counted
 
   -- `done`
   module _ (text : line ≡ report_text report.Done) (b : judged.Finishes s t) where
     as_many : more ≡ reports
-    as_many = elim counts [ inl c ↦ c.1 | inr c ↦ absurd (c.0 (inl text)) ]
+    as_many = elim is.counts [ inl c ↦ c.1 | inr c ↦ absurd (c.0 (inl text)) ]
 
     done_at : (units : List (List Report)) (tail : List Report) (now : World) → IsInUnit begun units tail now
         → StandsIn g s now → part ++ told_lines s.told ≡ lines_of_reports (flat_map (λ u. u) units ++ tail)
@@ -222,7 +258,7 @@ module _ (begun : World) (g : GraphState) (s t : Shown) (reports more : ℕ) (pa
         let before = part_is (flat_map (λ u. u) units ++ r ∷ []) lines in
         let said = lines_now (flat_map (λ u. u) units ++ r ∷ []) report.Done before
         (ap (λ l. l ∷ []) (sym text)
-        ∙ ap (λ ns. line ∷ told_lines ns) (sym (ap (λ (z : Shown). z.told) b.new_is ∙ none_told)))
+        ∙ ap (λ ns. line ∷ told_lines ns) (sym (ap (λ (z : Shown). z.told) b.new_is ∙ is.none_told)))
         in
         record {
           units = units ++ (r ∷ report.Done ∷ []) ∷ [];
@@ -233,7 +269,7 @@ module _ (begun : World) (g : GraphState) (s t : Shown) (reports more : ℕ) (pa
           stands = record {
             represents = subst (λ a. Represents a t (finished_world s t now at b)) e (finished_represents s t now at b);
             laws = laws_report now report.Done (finished_world s t now at b) st.laws (finished_lawful s t now at b);
-            sound = sound;
+            sound = is.sound;
           };
           lines = said ∙ ap lines_of_reports (flat_now units r);
           count = as_many ∙ whole_one reports units r count;
@@ -256,25 +292,25 @@ module _ (begun : World) (g : GraphState) (s t : Shown) (reports more : ℕ) (pa
             ∙ sym (flat_more (λ (u : List Report). u) us (x ∷ report.Done ∷ []))
             ∙ sym (append-nil (flat_map (λ (u : List Report). u) (us ++ (x ∷ report.Done ∷ []) ∷ [])))
 
-    pub done_next : HasUnitsSoFar begun g s reports part → Next
+    pub done_next : HasUnitsBefore begun n reports → Next
     done_next h = done_at h.units h.tail h.now h.state h.stands h.lines h.count h.tally h.has_tally h.counted
 
 -- a line of an answer with units that is not the last one
-pub line_next : (begun : World) (g : GraphState) (s t : Shown) (reports more : ℕ) (part : List (List ℕ))
-    (line : List ℕ) → IsSound g t → IsReportedLine g s line t → Counts reports line more
-    → HasUnitsSoFar begun g s reports part → HasUnitsSoFar begun g t more (part ++ line ∷ [])
-line_next begun g s t reports more part line sound (inr told) counts h =
-    told_next begun g s t reports part line more h sound told counts
-line_next begun g s t reports more part line sound (inl (r, text, b, none)) counts h = go r text b
+pub line_next : (begun : World) (n : Reading) (reports more : ℕ) → IsSound n.graph n.new
+    → IsReportedLine n.graph n.old n.line n.new → Counts reports n.line more → HasUnitsBefore begun n reports
+    → HasUnitsThen begun n more
+line_next begun n reports more sound (inr told) counts h = told_next begun n reports more h sound told counts
+line_next begun n reports more sound (inl (r, text, b, none)) counts h = go r text b
   where
-    go : (r : Report) → line ≡ report_text r → IsReported g s r t → HasUnitsSoFar begun g t more (part ++ line ∷ [])
-    go report.Started text b = report_next begun g s t reports more part line sound none counts report.Started
-        (λ e. cc e) text b h
-    go (report.Groups groups) text b = report_next begun g s t reports more part line sound none counts
-        (report.Groups groups) (λ e. cc e) text b h
-    go (report.Ended zones grays told) text b = report_next begun g s t reports more part line sound none counts
-        (report.Ended zones grays told) (λ e. cc e) text b h
-    go (report.Swept arena freed) text b = report_next begun g s t reports more part line sound none counts
-        (report.Swept arena freed) (λ e. cc e) text b h
-    go report.Done text b = done_next begun g s t reports more part line sound none counts text b h
+    is : IsNext n reports more
+    is = record { sound = sound; none_told = none; counts = counts }
+
+    go : (r : Report) → n.line ≡ report_text r → IsReported n.graph n.old r n.new → HasUnitsThen begun n more
+    go report.Started text b = report_next begun n reports more is report.Started (λ e. cc e) text b h
+    go (report.Groups groups) text b = report_next begun n reports more is (report.Groups groups) (λ e. cc e) text b h
+    go (report.Ended zones grays told) text b =
+        report_next begun n reports more is (report.Ended zones grays told) (λ e. cc e) text b h
+    go (report.Swept arena freed) text b =
+        report_next begun n reports more is (report.Swept arena freed) (λ e. cc e) text b h
+    go report.Done text b = done_next begun n reports more is text b h
     go (report.Stopped zones) text b = absurd b
