@@ -19,7 +19,9 @@ use Rattle.colour_defs.specs.World.{World}
 use Rattle.colour_defs.proofs.Lists.{contains_cases, nothing_in_none}
 use Rattle.colour_defs.proofs.ValidRuns.{answer_valid}
 use Rattle.trace_lang.specs.Texts.{reply_text}
-use Rattle.judge.specs.Cells.{wakes}
+use Rattle.judge.specs.Cells.{wakes, wakes_also}
+use Rattle.judge.specs.declared.former.Change.TheVariants as change
+use Rattle.judge.proofs.NewPlaces.{places_new}
 use Rattle.judge.specs.Positions.{AreLeft, IsBefore, KeepsLaws, StandsBetween}
 use Rattle.judge.specs.Replies.{Asks, AsksUnwatch, AsksWatch, AsksWeak, Due, IsUnmarked, graph_after_weak}
 use Rattle.judge.specs.Replies.{reply as reply_due}
@@ -37,13 +39,6 @@ use Rattle.judge.proofs.OneReply.{named_one, one_line_of, step_one}
 use Rattle.judge.proofs.PlainTexts.{IsNoDump, reply_plain, unmarked}
 use Rattle.judge.proofs.Reweak.{represents_unwatch, represents_watch, represents_weaken}
 use Rattle.judge.proofs.Sizes.{HasSizes, command_sizes, take_sizes}
-
--- new cells lie in their places by the definitions
-pub record PlacesNew : Type 0 where
-  pub obeys : (g : GraphState) (c : GraphCmd) (old new : Shown) → Obeys g c old new
-      → LiesInPlace (step_of g c).0 (wakes g c) old new
-  pub takes : (g : GraphState) (r : ℕ) (x : Option Name) (old new : Shown) → TakesNamed g r x old new
-      → LiesInPlace (with_register g r x) x old new
 
 -- a command that comes next, with its answer
 pub record ComesNext (w : World) (c : Cmd) (answer : Answer) (v : World) (more : List (List ℕ)) : Type 0 where
@@ -83,7 +78,7 @@ still_not_over g h old new w v stands then stage out not over =
       none_out = sym out ∙ is.none_out;
     }))
 
-module _ (places : PlacesNew) (old new : Shown) (w v : World) (answer : Answer) (more : List (List ℕ)) (due : Due)
+module _ (old new : Shown) (w v : World) (answer : Answer) (more : List (List ℕ)) (due : Due)
     (between : StandsBetween w.graph old w) where
   laws_then : (c : Cmd) (h : GraphState) → ComesNext w c answer v more → v.graph ≡ h → HasSizes w.graph h
       → KeepsLaws v
@@ -106,7 +101,8 @@ module _ (places : PlacesNew) (old new : Shown) (w v : World) (answer : Answer) 
       → AreLeft (step_of w.graph c).0 new due (lines_of_answer answer ++ more)
   asked_graph c next asks sound =
       let obeys = asks.1 in
-      let then = represents_command c answer.1 old new w v between.stands obeys (places.obeys w.graph c old new obeys)
+      let then = represents_command c answer.1 old new w v between.stands obeys 
+      (places_new (change.Command c) (step_of w.graph c).0 (wakes w.graph c) (wakes_also w.graph c) old new obeys.changes)
       next.lawful.1 in
       let laws = laws_then (command.Graph c) (step_of w.graph c).0 next then.graph_is (command_sizes w.graph c) in
       subst (λ d. AreLeft (step_of w.graph c).0 new d (lines_of_answer answer ++ more)) (sym asks.0)
@@ -137,7 +133,8 @@ module _ (places : PlacesNew) (old new : Shown) (w v : World) (answer : Answer) 
       let taken = subst (λ x. TakesNamed w.graph r x old new) same asks.1 in
       let h : GraphState = with_register w.graph r (weak_cell w q) in
       let then = represents_deref r q answer.1 old new w v between.stands taken
-      (places.takes w.graph r (weak_cell w q) old new taken) next.lawful.1 in
+      (places_new (change.Take r (weak_cell w q)) (with_register w.graph r (weak_cell w q)) (weak_cell w q) None old new
+      taken.changes) next.lawful.1 in
       let laws = laws_then (command.Weak (weak_cmd.Deref r q)) (with_register w.graph r (weak_cell w q)) next
       then.graph_is (take_sizes w.graph r (weak_cell w q)) in
       let heard = subst (λ x. IsSound (with_register w.graph r x) new) same sound in

@@ -24,7 +24,7 @@ use Rattle.judge.proofs.Sound.{sound_first}
 no_place : (x : Name) (cells : Cells) → cells.entries ≡ [] → tree.get order_of cells x ≡ None
 no_place x cells e = ap (λ es. lookup (is_at (order_of x)) es) e
 
-represents_first : (s : Shown) → IsFirst s → Represents empty_graph s first_world
+pub represents_first : (s : Shown) → IsFirst s → Represents empty_graph s first_world
 represents_first s f = record {
   graph_is = refl;
   places_are = λ x. finite.get-empty {X = ℕ × ℕ} name_cmp x ∙ sym (no_place x s.cells f.none_made);

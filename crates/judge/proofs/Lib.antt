@@ -91,6 +91,10 @@ pub mod Answered
 pub mod Resetting
 pub mod LastLine
 pub mod Refuting
+pub mod Unmarked
+pub mod Leading
+pub mod OneReading
+pub mod Completeness
 pub mod Spending
 pub mod Accepting
 pub mod Answering

@@ -1,17 +1,20 @@
 -- The gray cells and a dump are listed, or refused, in a lawful transcript.
-use Rattle.std.proofs.Common.{ℕ, ◌≡◌, ◌∙◌, inl, inr, List, [], ◌∷◌, ◌++◌, map, Contains, sym, ap, subst}
+use Rattle.std.proofs.Common.{ℕ, ◌≡◌, ◌∙◌, inl, inr, List, [], ◌∷◌, ◌++◌, map, Contains, refl, sym, ap, subst}
 use Rattle.gz_names.specs.declared.names.Name.{Name}
 use Rattle.gz_names.specs.declared.commands.Cmd.TheVariants as command
 use Rattle.gz_names.specs.declared.dumps.DumpLine.{DumpLine}
 use Rattle.gz_names.specs.declared.replies.Refusal.TheVariants as refusal
 use Rattle.gz_names.specs.declared.replies.Reply.TheVariants as reply
+use Rattle.gz_names.specs.declared.dumps.DumpLine.TheVariants as line
+use Rattle.std.specs.List.{flat_map}
+use Rattle.colour_defs.specs.Dumps.{IsDump, cell_line, edge_lines, weak_line}
 use Rattle.colour_defs.specs.Ends.{Lists}
 use Rattle.colour_defs.specs.Graph.{GraphState}
 use Rattle.colour_defs.specs.World.{Has, IsPresent, IsSettled as HasSettled, World}
 use Rattle.colour_defs.proofs.Lists.{contains_cases, nothing_in_none}
 use Rattle.judge.specs.Cells.{HasCell}
 use Rattle.judge.specs.Positions.{AreLeft, IsBefore, StandsBetween}
-use Rattle.judge.specs.Replies.{Due, Dumps, IsUnmarked, ListsGray}
+use Rattle.judge.specs.Replies.{Due, Dumps, IsUnmarked, ListsGray, dump as dump_due}
 use Rattle.judge.specs.Stages.{IsSettled, Shown}
 use Rattle.judge.specs.Transcripts.{Answer, IsLawfulFrom, dump_line, lines_of_answer, lines_of_reply, lines_of_reports}
 use Rattle.judge.proofs.Asked.{ComesNext}
@@ -29,6 +32,17 @@ dump_unmarked (d ∷ ds) l c = elim (contains_cases (dump_line d) (map dump_line
   | inl e ↦ subst IsUnmarked e (unmarked (dump_line d) (line_plain d))
   | inr t ↦ dump_unmarked ds l t
 ]
+
+-- a dump has its last line at least
+never_empty : (w : World) (ls : List DumpLine) → IsDump w ls → ls ≡ [] → ⊥
+never_empty w ls dump e = end_of (map (cell_line w) dump.cells) (flat_map (edge_lines w.graph) dump.cells)
+    (map weak_line dump.weaks) (sym dump.lines_are ∙ e)
+  where
+    end_of : (xs ys zs : List DumpLine) → xs ++ (ys ++ (zs ++ line.End ∷ [])) ≡ [] → ⊥
+    end_of [] [] [] e = cc e
+    end_of [] [] (z ∷ zs) e = cc e
+    end_of [] (y ∷ ys) zs e = cc e
+    end_of (x ∷ xs) ys zs e = cc e
 
 module _ (g : GraphState) (old new : Shown) (w v : World) (answer : Answer) (more : List (List ℕ)) (due : Due)
     (between : StandsBetween g old w) where
@@ -62,13 +76,19 @@ module _ (g : GraphState) (old new : Shown) (w v : World) (answer : Answer) (mor
         h.2.silent h.0 h.2.same next.goes_on
   ]
 
+  due_lines : (ls : List DumpLine) → (ls ≡ [] → ⊥) → IsBefore g old (map dump_line ls) (lines_of_answer answer ++ more)
+      → AreLeft g old (dump_due ls) (lines_of_answer answer ++ more)
+  due_lines [] some b = absurd (some refl)
+  due_lines (l ∷ ls) some b = b
+
   pub asked_dump : ComesNext w command.Dump answer v more → Dumps g old due → new ≡ old
       → AreLeft g new due (lines_of_answer answer ++ more)
   asked_dump next (inl (still, lines, lists, is)) same = elim next.lawful [
     | inl h ↦ (let mine = lists w (settled_rests between.stands.represents still) in
         let one : h.0 ≡ lines = one_dump w h.0 lines h.3 mine in
         subst (λ d. AreLeft g new d (lines_of_answer answer ++ more)) (sym is)
-        (subst (λ s. IsBefore g s (map dump_line lines) (lines_of_answer answer ++ more)) (sym same) (record {
+        (subst (λ s. AreLeft g s (dump_due lines) (lines_of_answer answer ++ more)) (sym same)
+        (due_lines lines (never_empty w lines mine) (record {
           world = w;
           stands = between;
           unmarked = dump_unmarked lines;
@@ -76,7 +96,7 @@ module _ (g : GraphState) (old new : Shown) (w v : World) (answer : Answer) (mor
           goes_on = subst (λ z. IsLawfulFrom z more) h.4.same next.goes_on;
           lines_are = ap (λ rs. (lines_of_reports rs ++ lines_of_reply answer.1) ++ more) h.4.silent
               ∙ ap (λ a. lines_of_reply a ++ more) (h.1 ∙ ap reply.Dump one);
-        })))
+        }))))
     | inr h ↦ absurd (h.1 (still_world still))
   ]
   asked_dump next (inr (moving, is)) same = elim next.lawful [

@@ -299,7 +299,7 @@ pub record IsReached (input : List ℕ) (n : ℕ) (rest : List ℕ) (g : GraphSt
   pub sound : IsSound g s
   pub up_to : UpTo lines g s due
 
-one_more : (n : ℕ) (lines : List (List ℕ)) (line : List ℕ) → n ≡ length lines → n + 1 ≡ length (lines ++ line ∷ [])
+pub one_more : (n : ℕ) (lines : List (List ℕ)) (line : List ℕ) → n ≡ length lines → n + 1 ≡ length (lines ++ line ∷ [])
 one_more n lines line e = let l = length_push lines line in omega (arith, e, l)
 
 pub reached : PlacesCells → (input : List ℕ) {n : ℕ} {rest : List ℕ} {g : GraphState} {s : Shown} {due : Due}

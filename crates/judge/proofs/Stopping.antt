@@ -27,7 +27,7 @@ use Rattle.judge.proofs.Settling.{no_zones}
 use Rattle.judge.proofs.Standing.{present_is}
 
 -- which zones are unfinished
-unfinished_by : (s : Shown) (w : World) (t : Stage) → IsAtStage t s w → (z : ℕ)
+pub unfinished_by : (s : Shown) (w : World) (t : Stage) → IsAtStage t s w → (z : ℕ)
     → IsUnfinished w z ↔ Contains (zones_in (unfinished_in t)) z
 unfinished_by s w idle at z = (
   λ u. elim u [

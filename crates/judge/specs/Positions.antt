@@ -142,6 +142,7 @@ pub record IsBefore (g : GraphState) (s : Shown) (due : List (List ℕ)) (lines 
 abbrev pub AreLeft : GraphState → Shown → Due → List (List ℕ) → Type 0
 AreLeft g s nothing lines = IsBefore g s [] lines
 AreLeft g s (reply_due text) lines = IsBefore g s (text ∷ []) lines
-AreLeft g s (dump ls) lines = IsBefore g s (map dump_line ls) lines
+AreLeft g s (dump []) lines = ⊥
+AreLeft g s (dump (l ∷ ls)) lines = IsBefore g s (map dump_line (l ∷ ls)) lines
 AreLeft g s (units_due most collects reports) lines = IsInUnits g s most collects reports lines
 AreLeft g s resets lines = IsInReset g s lines
