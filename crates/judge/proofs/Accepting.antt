@@ -11,7 +11,8 @@ use Rattle.colour_defs.specs.Graph.{GraphState, IsInZones}
 use Rattle.colour_defs.specs.Laws.{HasSomeZone, IsValid, NamesOnlyPresent}
 use Rattle.colour_defs.specs.Units.{Tally}
 use Rattle.colour_defs.specs.World.{Accepts, AcceptsIn, AcceptsPreparing, Collection, Has, HasPlace, IsPresent, Names}
-use Rattle.colour_defs.specs.World.{IsSettled as HasSettled, Preparation, Wakes, WakesLeftOut, World, is_present, marking_of, with_waking}
+use Rattle.colour_defs.specs.World.{IsSettled as HasSettled, Preparation, Wakes, WakesLeftOut, World, is_present}
+use Rattle.colour_defs.specs.World.{marking_of, with_waking}
 use Rattle.colour_defs.proofs.Carried.{Changes, presence_carries, present_or, within_in}
 use Rattle.colour_defs.proofs.Follows.{Follows}
 use Rattle.colour_defs.proofs.Lists.{both_of, first_of_both, second_of_both}
@@ -22,7 +23,8 @@ use Rattle.judge.specs.Live.{IsFollowed}
 use Rattle.judge.specs.Positions.{StandsIn}
 use Rattle.judge.specs.Represents.{IsAtStage, IsPrepared, LiesInPlace}
 use Rattle.judge.specs.Stages as judged
-use Rattle.judge.specs.Stages.{Blackens, BlackensLeft, BlackensOne, IsSettled, Shown, Stage, collecting, idle, preparing}
+use Rattle.judge.specs.Stages.{Blackens, BlackensLeft, BlackensOne, IsSettled, Shown, Stage, collecting, idle}
+use Rattle.judge.specs.Stages.{preparing}
 use Rattle.judge.specs.Walks.{GoesOnFrom, IsLeftBlack}
 use Rattle.judge.specs.declared.former.Change.{Change}
 use Rattle.judge.proofs.Blackening.{left_closed, within_as}
@@ -183,55 +185,55 @@ module _ (k : Change) (h : GraphState) (x also : Option Name) (f : Collection �
         )
 
   -- while zones are being prepared
-  module _ (zones : ZoneSet) (at : IsPrepared old zones w) (grows : GrowsLeft h zones (IsEither x also) old.left_out new.left_out)
-    where
-      closed : IsClosedLeft h zones old.left_out
-      closed = left_closed w at.preparation zones (record { first = x; also = also }) h old.left_out (record {
-        ok = ok;
-        ready = ok.preparing at.preparation at.preparing_is;
-        zones_are = at.zones_are;
-        follow = a.follow;
-        on = a.on;
-        black_are = at.black_are;
-      })
+  module _ (zones : ZoneSet) (at : IsPrepared old zones w)
+      (grows : GrowsLeft h zones (IsEither x also) old.left_out new.left_out) where
+    closed : IsClosedLeft h zones old.left_out
+    closed = left_closed w at.preparation zones (record { first = x; also = also }) h old.left_out (record {
+      ok = ok;
+      ready = ok.preparing at.preparation at.preparing_is;
+      zones_are = at.zones_are;
+      follow = a.follow;
+      on = a.on;
+      black_are = at.black_are;
+    })
 
-      -- what is left out in a world after the change turns black
-      wakes_left : (v : World) (P : Name → Type 0) → v.graph ≡ h → NamesOnlyPresent v
-          → ((n : Name) → IsPresent w n → IsPresent v n) → ((n : Name) → P n → IsPresent v n)
-          → ((n : Name) → P n ↔ IsEither x also n)
-          → ((n : Name) → Has v.black n ↔ (Contains (names_left new.left_out) n × IsPresent v n))
-          → WakesLeftOut w at.preparation P v
-      wakes_left v P graph presence kept there alike black n = (
-        λ b. subst (λ g. ClosureWithin g (λ m. IsPresent v m × (IsInZones g at.preparation.zones m → ⊥))
-            (λ m. Has w.black m ⊎ P m) n) (sym graph)
-            (within_as h (λ m. IsPresent v m × IsOutOf h zones m)
-            (λ m. IsPresent v m × (IsInZones h at.preparation.zones m → ⊥))
-            (λ m. IsLeftBlack old.left_out m ⊎ IsEither x also m) (λ m. Has w.black m ⊎ P m)
-            (λ m l. (l.0, λ i. l.1 (subst (λ zs. IsInZones h zs m) at.zones_are i)))
-            (λ m s. elim s [ inl o ↦ inl ((at.black_are m).1 o) | inr e ↦ inr ((alike m).1 e) ])
-            (within_followed h (IsOutOf h zones) (λ m. IsLeftBlack old.left_out m ⊎ IsEither x also m) (IsPresent v)
-            followed (λ m s i. elim s [
-              | inl o ↦ kept m ((ok.preparing at.preparation at.preparing_is).left_out m ((at.black_are m).1 o)).0
-              | inr e ↦ there m ((alike m).1 e)
-            ]) ((grows closed n).0 ((left_has new.left_out n).1 ((black n).0 b).0))).0),
-        λ r. let out = subst (λ g. ClosureWithin g (λ m. IsPresent v m × (IsInZones g at.preparation.zones m → ⊥))
-            (λ m. Has w.black m ⊎ P m) n) graph r in
-            (black n).1 (
-              (left_has new.left_out n).0 ((grows closed n).1
-                  (within_as h (λ m. IsPresent v m × (IsInZones h at.preparation.zones m → ⊥)) (IsOutOf h zones)
-                  (λ m. Has w.black m ⊎ P m) (λ m. IsLeftBlack old.left_out m ⊎ IsEither x also m)
-                  (λ m l i. l.1 (subst (λ zs. IsInZones h zs m) (sym at.zones_are) i))
-                  (λ m s. elim s [ inl o ↦ inl ((at.black_are m).0 o) | inr p ↦ inr ((alike m).0 p) ]) out)),
-              (within_in out).0,
-            ),
-      )
-        where
-          followed : IsFollowed h (IsPresent v)
-          followed = subst (λ g. IsFollowed g (IsPresent v)) graph (record {
-            edges = presence.edges;
-            values = presence.entries;
-            keys = presence.keys;
-          })
+    -- what is left out in a world after the change turns black
+    wakes_left : (v : World) (P : Name → Type 0) → v.graph ≡ h → NamesOnlyPresent v
+        → ((n : Name) → IsPresent w n → IsPresent v n) → ((n : Name) → P n → IsPresent v n)
+        → ((n : Name) → P n ↔ IsEither x also n)
+        → ((n : Name) → Has v.black n ↔ (Contains (names_left new.left_out) n × IsPresent v n))
+        → WakesLeftOut w at.preparation P v
+    wakes_left v P graph presence kept there alike black n = (
+      λ b. subst (λ g. ClosureWithin g (λ m. IsPresent v m × (IsInZones g at.preparation.zones m → ⊥))
+          (λ m. Has w.black m ⊎ P m) n) (sym graph)
+          (within_as h (λ m. IsPresent v m × IsOutOf h zones m)
+          (λ m. IsPresent v m × (IsInZones h at.preparation.zones m → ⊥))
+          (λ m. IsLeftBlack old.left_out m ⊎ IsEither x also m) (λ m. Has w.black m ⊎ P m)
+          (λ m l. (l.0, λ i. l.1 (subst (λ zs. IsInZones h zs m) at.zones_are i)))
+          (λ m s. elim s [ inl o ↦ inl ((at.black_are m).1 o) | inr e ↦ inr ((alike m).1 e) ])
+          (within_followed h (IsOutOf h zones) (λ m. IsLeftBlack old.left_out m ⊎ IsEither x also m) (IsPresent v)
+          followed (λ m s i. elim s [
+            | inl o ↦ kept m ((ok.preparing at.preparation at.preparing_is).left_out m ((at.black_are m).1 o)).0
+            | inr e ↦ there m ((alike m).1 e)
+          ]) ((grows closed n).0 ((left_has new.left_out n).1 ((black n).0 b).0))).0),
+      λ r. let out = subst (λ g. ClosureWithin g (λ m. IsPresent v m × (IsInZones g at.preparation.zones m → ⊥))
+          (λ m. Has w.black m ⊎ P m) n) graph r in
+          (black n).1 (
+            (left_has new.left_out n).0 ((grows closed n).1
+                (within_as h (λ m. IsPresent v m × (IsInZones h at.preparation.zones m → ⊥)) (IsOutOf h zones)
+                (λ m. Has w.black m ⊎ P m) (λ m. IsLeftBlack old.left_out m ⊎ IsEither x also m)
+                (λ m l i. l.1 (subst (λ zs. IsInZones h zs m) (sym at.zones_are) i))
+                (λ m s. elim s [ inl o ↦ inl ((at.black_are m).0 o) | inr p ↦ inr ((alike m).0 p) ]) out)),
+            (within_in out).0,
+          ),
+    )
+      where
+        followed : IsFollowed h (IsPresent v)
+        followed = subst (λ g. IsFollowed g (IsPresent v)) graph (record {
+          edges = presence.edges;
+          values = presence.entries;
+          keys = presence.keys;
+        })
 
   -- presence after the change
   presence_of : (v : World) → Changes w (record { first = x; also = also }) v → NamesOnlyPresent v

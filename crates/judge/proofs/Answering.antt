@@ -39,12 +39,14 @@ use Rattle.judge.proofs.LiveRuns.{command_step, read_step}
 below_of : (a b : ℕ) → nat_lt a b ≡ true → a < b
 below_of a b e = grind (arith, e)
 
-has_zone : (g : GraphState) (c : CompNo) → nat_lt c.0 (length g.comps) ≡ true → (z : ℕ) × (slice_get g.comps c.0 ≡ Some z)
+has_zone : (g : GraphState) (c : CompNo) → nat_lt c.0 (length g.comps) ≡ true
+    → (z : ℕ) × (slice_get g.comps c.0 ≡ Some z)
 has_zone g c e = (get_or g.comps c.0 0, slice_get-get_or g.comps c.0 0 (below_of c.0 (length g.comps) e))
 
 made_zoned : (g : GraphState) (r : ℕ) (o : Object) → refusal_in (make_object g r o).1 ≡ None
     → HasSomeZone (make_object g r o).0 (Cell (length g.objects))
-made_zoned g r o = choose (λ (p : GraphState × Reply). refusal_in p.1 ≡ None → HasSomeZone p.0 (Cell (length g.objects)))
+made_zoned g r o =
+    choose (λ (p : GraphState × Reply). refusal_in p.1 ≡ None → HasSomeZone p.0 (Cell (length g.objects)))
     (nat_lt o.comp.0 (length g.comps)) _ _
     (λ e _. let z = has_zone g o.comp e in (
       z.0,
@@ -109,8 +111,8 @@ module _ (c : GraphCmd) (old new : Shown) (w : World) (stands : StandsIn w.graph
       (unless_refused o (also_woken_by w.graph c)) old new) e obeys.changes in
       let lying = subst (λ o. LiesInPlace after (unless_refused o (woken_by w.graph c)) old new) e lies in
       let ok = stands.laws.valid in
-      let a = accepting (change.Command c) after (woken_by w.graph c) (also_woken_by w.graph c) (counted w.graph c) old new
-      w (record {
+      let a = accepting (change.Command c) after (woken_by w.graph c) (also_woken_by w.graph c) (counted w.graph c)
+      old new w (record {
         stands = stands;
         changes = changes;
         lies = lying;
@@ -158,4 +160,6 @@ module _ (r q : ℕ) (old new : Shown) (w : World) (stands : StandsIn w.graph ol
   pub derefed : (v : World) × WeakInWorld w (weak_command.Deref r q) (named_or_null (weak_cell w q)) v
       × Represents (with_register w.graph r (weak_cell w q)) new v
   derefed = let m = taking in
-      (m.0, (refl, m.1), represents_deref r q (named_or_null (weak_cell w q)) old new w m.0 stands taken lies (refl, m.1))
+      let stands_then = represents_deref r q (named_or_null (weak_cell w q)) old new w m.0 stands taken lies (refl, m.1)
+      in
+      (m.0, (refl, m.1), stands_then)

@@ -1,6 +1,6 @@
 -- A collection begins, and a zone is compacted: there is a world after each, for which the judge stands.
 use Rattle.std.proofs.Common.{◌≡◌, ◌↔◌, ◌∙◌, ◌<◌, ◌^◌, ℕ, Bool, true, false, not, [], Some}
-use Rattle.std.proofs.Common.{arith, None, Contains, ap, refl, subst, sym}
+use Rattle.std.proofs.Common.{arith, None, ap, refl, subst, sym}
 use Rattle.std.specs.FinSet as set
 use Rattle.gz_names.specs.Zones.{zones_in}
 use Rattle.gz_names.specs.declared.names.Name.{Name}
@@ -14,14 +14,14 @@ use Rattle.colour_defs.proofs.Lists.{both_of, first_of_both, second_of_both}
 use Rattle.colour_defs.proofs.Names.{names_apart}
 use Rattle.colour_defs.proofs.ZoneSets.{zones_in-has}
 use Rattle.judge.specs.Bounds.{arena_count, with_arenas}
-use Rattle.judge.specs.Compaction.{Lies, Packs}
-use Rattle.judge.specs.Represents.{AreWaiting, IsAtRest, IsAtStage, Represents}
-use Rattle.judge.specs.Weak.{IsWatched}
+use Rattle.judge.specs.Compaction.{Packs}
+use Rattle.judge.specs.Represents.{Represents}
 use Rattle.judge.specs.Replies.{AreMade}
-use Rattle.judge.specs.Stages.{Shown, Stage, idle, preparing}
+use Rattle.judge.specs.Stages.{Shown, idle, preparing}
 use Rattle.judge.specs.Starts.{LeavesOut}
 use Rattle.judge.proofs.Beginning.{represents_begin}
-use Rattle.judge.proofs.NameSets.{none_zones}
+use Rattle.judge.proofs.Compacting.{represents_packed}
+use Rattle.judge.proofs.Settling.{no_bits}
 use Rattle.judge.proofs.Standing.{at_rest, idle_lies}
 
 module _ (g : GraphState) (zones : ZoneSet) (old new : Shown) (w : World) (r : Represents g old w) (ok : IsValid w)
@@ -64,7 +64,7 @@ module _ (g : GraphState) (zones : ZoneSet) (old new : Shown) (w : World) (r : R
       )
 
   full : zones_in zones ≡ [] → ⊥
-  full e = let none = none_zones zones small e in omega (arith, some, none)
+  full e = let none = no_bits zones small e in omega (arith, some, none)
 
   lawful : Prepares w (zones_in zones) begun
   lawful = record {
@@ -82,31 +82,6 @@ module _ (g : GraphState) (zones : ZoneSet) (old new : Shown) (w : World) (r : R
 -- a zone is compacted
 module _ (g : GraphState) (zone : ℕ) (old new : Shown) (moved given_up : ℕ) (w : World) (r : Represents g old w)
     (idle_is : old.stage ≡ idle) (packs : Packs g zone old moved given_up new) where
-  rest : IsAtRest old w
-  rest = at_rest r idle_is
-
-  compacted_as : (v : World) → Compacts w zone moved given_up v → Lies g new v
-      → Represents g (record old { owners = new.owners; cells = new.cells }) v
-  compacted_as v c lies = record {
-    graph_is = lies.graph_is;
-    places_are = lies.places_are;
-    owners_are = lies.owners_are;
-    out_are = ap (λ (z : World). z.out) c.world_is ∙ r.out_are;
-    white_are = λ arena out. subst (λ (z : World). AreWaiting old z arena) (sym c.world_is)
-        (r.white_are arena out);
-    slots_are = ap (λ (z : World). z.weak.slots) c.world_is ∙ r.slots_are;
-    watched_are = λ x. subst (λ (z : World). Has z.weak.watched x ↔ IsWatched old.weak x)
-        (sym c.world_is) (r.watched_are x);
-    black_are = λ still. let b = r.black_are still in
-        record {
-          within = b.within;
-          names_are = λ x. subst (λ (z : World). Has z.black x ↔ Contains old.black.names x) (sym c.world_is)
-              (b.names_are x);
-        };
-    stage_is = subst (λ (u : Stage). IsAtStage u (record old { owners = new.owners; cells = new.cells }) v)
-        (sym idle_is) (record { idle = lies.idle; none_out = rest.none_out });
-  }
-
   pub compacted : (v : World) × Compacts w zone moved given_up v × Represents g new v
   compacted = let p = packs.lawful w (idle_lies r idle_is) in
-      (p.0, p.1, subst (λ t. Represents g t p.0) (sym packs.new_is) (compacted_as p.0 p.1 p.2))
+      (p.0, p.1, represents_packed g zone moved given_up moved given_up old new w p.0 r idle_is packs p.1)

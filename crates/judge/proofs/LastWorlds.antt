@@ -7,7 +7,8 @@ use Rattle.gz_names.specs.declared.commands.Cmd.{Cmd}
 use Rattle.gz_names.specs.declared.replies.Reply.{Reply}
 use Rattle.gz_names.specs.declared.replies.Report.{Report}
 use Rattle.colour_defs.specs.Graph.{GraphState}
-use Rattle.colour_defs.specs.Lawful.{Answers, AreLawfulUnits, HasTally, IsRunning, Slices, with_spent, with_spent_preparing}
+use Rattle.colour_defs.specs.Lawful.{Answers, AreLawfulUnits, HasTally, IsRunning, Slices, with_spent}
+use Rattle.colour_defs.specs.Lawful.{with_spent_preparing}
 use Rattle.colour_defs.specs.Units.{MeetsUnitBound, Tally}
 use Rattle.colour_defs.specs.World.{IsIdle, World, first_tally}
 use Rattle.colour_defs.proofs.ValidRuns.{answer_valid}
@@ -19,7 +20,7 @@ use Rattle.judge.specs.Stages as judged
 use Rattle.judge.specs.Stages.{CountsAs, Shown, Stage, collecting, idle, is_prepared, preparing}
 use Rattle.judge.specs.Transcripts.{lines_of_reports, told_lines}
 use Rattle.judge.proofs.LiveRuns.{answer_live}
-use Rattle.judge.proofs.OverBoth.{idle_of, over_back}
+use Rattle.judge.proofs.Idling.{idle_world, over_shown}
 use Rattle.judge.proofs.Spending.{represents_spent, spent_in}
 use Rattle.judge.proofs.Transcribing.{quiet_first, quiet_length, quiet_reports, quiet_units}
 use Rattle.judge.proofs.UnitLines.{HasUnitsSoFar, IsInUnit, between, ending}
@@ -39,7 +40,7 @@ closing g t w v c reports answer laws h rep sound told over registers slots = re
     };
     sound = sound;
   };
-  not_over = λ o. over (over_back t v rep o);
+  not_over = λ o. over (over_shown rep o);
   none_told = told;
 }
 
@@ -63,8 +64,8 @@ counts_prepared s w (preparing zones) tally at e (inr p) =
           ∙ sym (ap (λ (t : Tally). t.spent) first),
     )
 
-counts_same : (s : Shown) (w : World) (tally : Tally) (rs : List Report) → IsAtStage s.stage s w → HasCounted s w tally rs
-    → (b : Bool) → is_prepared s.stage ≡ b → CountsAs b s.tally tally rs
+counts_same : (s : Shown) (w : World) (tally : Tally) (rs : List Report) → IsAtStage s.stage s w
+    → HasCounted s w tally rs → (b : Bool) → is_prepared s.stage ≡ b → CountsAs b s.tally tally rs
 counts_same s w tally rs at h true e = counts_prepared s w s.stage tally at e (h.prepared e).1
 counts_same s w tally rs at h false e = h.begun e
 
@@ -83,7 +84,7 @@ module _ (before : World) (g : GraphState) (s t : Shown) (most : Option ℕ) (re
       → HasCounted s now tally (flat_map (λ u. u) units ++ tail) → Ends l.number
   slice_at run l units (x ∷ (y ∷ ys)) now state st lines count tally has counted = elim state [ ]
   slice_at run l units (r ∷ []) now (ending u lu ran nd lawful over) st lines count tally has counted =
-      absurd (l.not_over (over_back s now st.represents over))
+      absurd (l.not_over (over_shown st.represents over))
   slice_at run l units [] now (between lu goes) st lines count tally has counted =
       let rs = flat_map (λ (u : List Report). u) units in
       let n = l.number - length units in
@@ -112,7 +113,7 @@ module _ (before : World) (g : GraphState) (s t : Shown) (most : Option ℕ) (re
         represents_spent g l.number s t now st.represents l.spends.new_is,
         ap (λ a. length a.registers) (sym st.represents.graph_is) ∙ st.laws.registers,
         ap (λ a. length a.slots) (sym st.represents.graph_is) ∙ st.laws.slots,
-        (λ e. let i = idle_of s now st.represents e in record {
+        (λ e. let i = idle_world st.represents e in record {
           none_running = ap (λ o. with_spent l.number o) i.none_running;
           none_preparing = ap (λ o. with_spent_preparing l.number o) i.none_preparing;
         }),
@@ -124,7 +125,8 @@ module _ (before : World) (g : GraphState) (s t : Shown) (most : Option ℕ) (re
 
   pub slice_ends : IsRunning before → (l : IsSliced most reports s line t) → HasUnitsSoFar before g s reports part
       → Ends l.number
-  slice_ends run l h = slice_at run l h.units h.tail h.now h.state h.stands h.lines h.count h.tally h.has_tally h.counted
+  slice_ends run l h =
+      slice_at run l h.units h.tail h.now h.state h.stands h.lines h.count h.tally h.has_tally h.counted
 
 -- the units of a whole collection
 module _ (begun : World) (g : GraphState) (s : Shown) (reports : ℕ) (part : List (List ℕ)) where
@@ -137,7 +139,7 @@ module _ (begun : World) (g : GraphState) (s : Shown) (reports : ℕ) (part : Li
       → part ++ told_lines s.told ≡ lines_of_reports (flat_map (λ u. u) units ++ tail) → Whole
   whole_at e none units (x ∷ (y ∷ ys)) now state st lines = elim state [ ]
   whole_at e none units (r ∷ []) now (ending u lu ran nd lawful over) st lines =
-      let i = idle_of s now st.represents e in absurd (cc (i.none_running, over.running))
+      let i = idle_world st.represents e in absurd (cc (i.none_running, over.running))
   whole_at e none units [] now (between lu goes) st lines = (
     units,
     now,

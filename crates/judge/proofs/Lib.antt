@@ -102,7 +102,6 @@ pub mod Spending
 pub mod Accepting
 pub mod Answering
 pub mod OverBoth
-pub mod WeakWorlds
 pub mod PlainReplies
 pub mod IdleWorlds
 pub mod Transcribing

@@ -129,13 +129,6 @@ end_live w zones grays told v ok l h = record {
       (was_live w zones grays told v ok l h));
 }
 
--- what was found live is present as a group ends, also as the last one does
-pub live_at_end : (w : World) (zones : List ℕ) (grays told : List Name) (v : World) → IsValid w → IsValidLive w
-    → (h : EndsGroup w zones grays told v) → (x : Name) → LiveClosure h.collection x → IsPresent v x
-live_at_end w zones grays told v ok l h x live =
-    live_stays w v h.collection zones h.rest grays ok h.running h.first told h.ends h.loses
-    (was_live w zones grays told v ok l h) x live
-
 swept_retallied : (o : Option Collection) → Retallied o (with_sweep o)
 swept_retallied None = none
 swept_retallied (Some k) = some k _

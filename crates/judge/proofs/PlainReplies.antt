@@ -12,8 +12,10 @@ use Rattle.gz_names.specs.declared.replies.Reply.TheVariants as reply
 use Rattle.colour_defs.specs.declared.graph.Object.{Object}
 use Rattle.colour_defs.specs.Graph.{GraphState, has_wrapper, object_of, register_cell, slot_cell, value_of}
 use Rattle.colour_defs.specs.Step.{del_from, del_unless, del_value, entry_refusal, find_from, find_unless, fits_comp}
-use Rattle.colour_defs.specs.Step.{get_from, get_in, get_value, is_in_comp, make_object, named_or_null, new_map, new_object}
-use Rattle.colour_defs.specs.Step.{put_from, put_unless, set_from, set_in, step_of, take_wrapper, target_of, unwrap_from}
+use Rattle.colour_defs.specs.Step.{get_from, get_in, get_value, is_in_comp, make_object, named_or_null, new_map}
+use Rattle.colour_defs.specs.Step.{new_object}
+use Rattle.colour_defs.specs.Step.{put_from, put_unless, set_from, set_in, step_of, take_wrapper, target_of}
+use Rattle.colour_defs.specs.Step.{unwrap_from}
 use Rattle.colour_defs.specs.Step.{value_to_set, wrap_from}
 use Rattle.colour_defs.proofs.Lists.{choose}
 use Rattle.trace_lang.specs.Texts.{reply_text}
@@ -47,7 +49,8 @@ value_plain g r (Some x) = named_plain x
 
 get_plain : (g : GraphState) (r f : ℕ) (o : Option Object) → IsPlain (get_in g r o f).1
 get_plain g r f None = refused_plain _
-get_plain g r f (Some o) = choose Plain o.is_map _ _ (λ _. refused_plain _) (λ _. value_plain g r (slice_get o.fields f))
+get_plain g r f (Some o) = choose Plain o.is_map _ _ (λ _. refused_plain _)
+    (λ _. value_plain g r (slice_get o.fields f))
 
 got_plain : (g : GraphState) (r f : ℕ) (x : Option Name) → IsPlain (get_from g r x f).1
 got_plain g r f None = refused_plain _

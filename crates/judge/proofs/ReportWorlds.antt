@@ -1,6 +1,6 @@
 -- A report that is judged: there is a world after it by the definitions, for which the judge stands.
 use Rattle.std.proofs.Common.{◌≡◌, ◌≢◌, ◌∙◌, ℕ, ◌+◌, false, List, [], ◌∷◌, ◌++◌, ap, arith}
-use Rattle.std.proofs.Common.{inl, inr, length, refl, subst, sym}
+use Rattle.std.proofs.Common.{inl, inr, refl, subst, sym}
 use Rattle.gz_names.specs.Zones.{zones_in}
 use Rattle.gz_names.specs.declared.names.Name.{Name}
 use Rattle.gz_names.specs.declared.zone_sets.ZoneSet.{ZoneSet}
@@ -9,32 +9,21 @@ use Rattle.gz_names.specs.declared.replies.Report.TheVariants as report
 use Rattle.colour_defs.specs.Lawful.{HasTally, IsLawfulReport, IsRunning}
 use Rattle.colour_defs.specs.Units.{Tally, sweeps_in}
 use Rattle.colour_defs.specs.World.{World, first_tally}
-use Rattle.colour_defs.proofs.ValidReports.{report_valid}
 use Rattle.trace_lang.specs.Texts.{report_text}
 use Rattle.judge.specs.Positions.{HasCounted, StandsIn}
 use Rattle.judge.specs.Represents.{IsAtStage, Represents}
 use Rattle.judge.specs.Sound.{IsSound}
-use Rattle.judge.specs.Stages.{EndsGroup, Forms, IsReported, Shown, Stage, Starts, Sweeps, collecting, idle, is_prepared, preparing}
+use Rattle.judge.specs.Stages.{EndsGroup, Forms, IsReported, Shown, Stage, Starts, Sweeps, collecting, idle}
+use Rattle.judge.specs.Stages.{is_prepared, preparing}
 use Rattle.judge.specs.Transcripts.{lines_of_report, told_lines}
 use Rattle.judge.specs.Walks.{CatchUp}
-use Rattle.judge.proofs.LiveReports.{report_live}
-use Rattle.judge.proofs.OverBoth.{running_of}
-use Rattle.judge.proofs.StandsFor.{IsFor}
+use Rattle.judge.proofs.Idling.{running_world}
+use Rattle.judge.proofs.Lawfulness.{laws_report}
 use Rattle.judge.proofs.Transcribing.{sweeps_both}
 use Rattle.judge.proofs.WorldEnds.{ended_lawful, ended_represents, ended_world}
-use Rattle.judge.proofs.WorldForms.{formed_lawful, formed_represents, formed_world}
+use Rattle.judge.proofs.WorldForms.{forming}
 use Rattle.judge.proofs.WorldStarts.{prepared, started_lawful, started_represents, started_world, tally_now}
 use Rattle.judge.proofs.WorldSweeps.{swept_lawful, swept_represents, swept_world}
-
-pub for_of : (s : Shown) (w : World) → StandsIn w.graph s w → IsFor s w
-for_of s w st = record {
-  represents = st.represents;
-  valid = st.laws.valid;
-  live = st.laws.live;
-  registers = st.laws.registers;
-  slots = st.laws.slots;
-  sound = st.sound;
-}
 
 -- a report of the definitions for one that is judged, and the world after it
 pub record IsMade (s t : Shown) (w : World) (text : List ℕ) : Type 0 where
@@ -50,15 +39,10 @@ pub record IsMade (s t : Shown) (w : World) (text : List ℕ) : Type 0 where
 
 -- the world after a report of which only the graph is the same
 pub stands_after : (t : Shown) (w v : World) (r : Report) (s : Shown) → StandsIn w.graph s w → IsLawfulReport w r v
-    → v.graph ≡ w.graph → Represents w.graph t v → IsSound w.graph t → StandsIn w.graph t v
-stands_after t w v r s st h graph rep sound = record {
+    → Represents w.graph t v → IsSound w.graph t → StandsIn w.graph t v
+stands_after t w v r s st h rep sound = record {
   represents = rep;
-  laws = record {
-    valid = report_valid w r v st.laws.valid h;
-    live = report_live w r v st.laws.valid st.laws.live h;
-    registers = ap (λ g. length g.registers) graph ∙ st.laws.registers;
-    slots = ap (λ g. length g.slots) graph ∙ st.laws.slots;
-  };
+  laws = laws_report w r v st.laws h;
   sound = sound;
 }
 
@@ -83,54 +67,53 @@ with_none t = let e : t.sweeps ≡ t.sweeps + 0 = omega arith in ap (λ n. recor
 started_made : (s t : Shown) (w : World) → StandsIn w.graph s w → IsSound w.graph t → Starts w.graph s t → s.told ≡ []
     → IsMade s t w (report_text report.Started)
 started_made s t w st sound b told =
-    let f = for_of s w st in record {
+    record {
       said = report.Started;
-      world = started_world s t w f b;
-      running = running_of s w st.represents (λ e. cc (e, b.was));
+      world = started_world s t w st b;
+      running = running_world st.represents (λ e. cc (e, b.was));
       not_done = λ e. cc e;
-      lawful = (zones_in b.zones, started_lawful s t w f b);
-      stands = stands_after t w (started_world s t w f b) report.Started s st (zones_in b.zones, started_lawful s t w f b)
-          refl (started_represents s t w f b) sound;
+      lawful = (zones_in b.zones, started_lawful s t w st b);
+      stands = stands_after t w (started_world s t w st b) report.Started s st
+          (zones_in b.zones, started_lawful s t w st b) (started_represents s t w st b) sound;
       lines = ap (λ ns. report_text report.Started ∷ told_lines ns)
           (sym (ap (λ (u : Shown). u.told) b.started.new_is ∙ told));
-      counted = λ tally so_far h. begun f tally so_far h;
+      counted = begun;
     }
   where
     now : is_prepared t.stage ≡ false
     now = ap (λ (u : Shown). is_prepared u.stage) b.started.new_is
 
-    begun : (f : IsFor s w) (tally : Tally) (so_far : List Report) → HasCounted s w tally so_far
-        → HasCounted t (started_world s t w f b) tally (so_far ++ report.Started ∷ [])
-    begun f tally so_far h =
+    begun : (tally : Tally) (so_far : List Report) → HasCounted s w tally so_far
+        → HasCounted t (started_world s t w st b) tally (so_far ++ report.Started ∷ [])
+    begun tally so_far h =
         let was = h.prepared (ap is_prepared b.was) in
-        let p = prepared s t w f b in record {
+        record {
           prepared = λ e. absurd (cc (e, now));
-          begun = λ e. sym (tally_now s t w f b) ∙ sym (first was.1) ∙ with_none tally
-              ∙ ap (λ (rs : List Report). record tally { sweeps = tally.sweeps + sweeps_in (rs ++ report.Started ∷ []) })
-              (sym was.0);
+          begun = λ e. tally_now s t w st b ∙ sym (first was.1) ∙ with_none tally
+              ∙ ap (λ (rs : List Report).
+              record tally { sweeps = tally.sweeps + sweeps_in (rs ++ report.Started ∷ []) }) (sym was.0);
         }
       where
-        first : HasTally w tally → tally ≡ first_tally w (prepared s t w f b).preparation
-        first (inl k) = absurd (cc (k.1, (prepared s t w f b).alone))
+        first : HasTally w tally → tally ≡ first_tally w (prepared s t w st b).preparation
+        first (inl k) = absurd (cc (k.1, (prepared s t w st b).alone))
         first (inr q) =
-            let same : q.0 ≡ (prepared s t w f b).preparation = cc (q.1, (prepared s t w f b).preparing_is) in
+            let same : q.0 ≡ (prepared s t w st b).preparation = cc (q.1, (prepared s t w st b).preparing_is) in
             q.2 ∙ ap (λ p. first_tally w p) same
 
 formed_made : (s t : Shown) (w : World) (groups : List ZoneSet) → StandsIn w.graph s w → IsSound w.graph t
     → Forms w.graph s groups t → CatchUp s.former.graph s.walks t.walks → s.told ≡ []
     → IsMade s t w (report_text (report.Groups groups))
 formed_made s t w groups st sound b up told =
-    let f = for_of s w st in record {
+    let made = forming s t w st groups b up in record {
       said = report.Groups groups;
-      world = formed_world s t w f groups b up;
-      running = running_of s w st.represents (λ e. cc (e, b.was));
+      world = made.0;
+      running = running_world st.represents (λ e. cc (e, b.was));
       not_done = λ e. cc e;
-      lawful = formed_lawful s t w f groups b up;
-      stands = stands_after t w (formed_world s t w f groups b up) (report.Groups groups) s st
-          (formed_lawful s t w f groups b up) refl (formed_represents s t w f groups b up) sound;
+      lawful = made.1;
+      stands = stands_after t w made.0 (report.Groups groups) s st made.1 made.3 sound;
       lines = ap (λ ns. report_text (report.Groups groups) ∷ told_lines ns)
           (sym (ap (λ (u : Shown). u.told) b.new_is ∙ told));
-      counted = λ tally so_far h. still_counted s t w (formed_world s t w f groups b up) tally so_far
+      counted = λ tally so_far h. still_counted s t w made.0 tally so_far
           (report.Groups groups) 0 refl (ap is_prepared b.was) (ap (λ (u : Shown). is_prepared u.stage) b.new_is)
           (ap (λ (u : Shown). u.tally) b.new_is ∙ with_none s.tally) h;
     }
@@ -138,16 +121,16 @@ formed_made s t w groups st sound b up told =
 ended_made : (s t : Shown) (w : World) (group : ZoneSet) (grays : List Name) → StandsIn w.graph s w → IsSound w.graph t
     → EndsGroup w.graph s group grays t → IsMade s t w (report_text (report.Ended group grays []))
 ended_made s t w group grays st sound b =
-    let f = for_of s w st in record {
+    record {
       said = report.Ended group grays t.told;
-      world = ended_world s t w f group grays b;
-      running = running_of s w st.represents (λ e. cc (e, b.ends.was));
+      world = ended_world s t w st group grays b;
+      running = running_world st.represents (λ e. cc (e, b.ends.was));
       not_done = λ e. cc e;
-      lawful = ended_lawful s t w f group grays b;
-      stands = stands_after t w (ended_world s t w f group grays b) (report.Ended group grays t.told) s st
-          (ended_lawful s t w f group grays b) refl (ended_represents s t w f group grays b) sound;
+      lawful = ended_lawful s t w st group grays b;
+      stands = stands_after t w (ended_world s t w st group grays b) (report.Ended group grays t.told) s st
+          (ended_lawful s t w st group grays b) (ended_represents s t w st group grays b) sound;
       lines = refl;
-      counted = λ tally so_far h. still_counted s t w (ended_world s t w f group grays b) tally so_far
+      counted = λ tally so_far h. still_counted s t w (ended_world s t w st group grays b) tally so_far
           (report.Ended group grays t.told) 0 refl (ap is_prepared b.ends.was) (ap is_prepared b.ends.new_is)
           (b.tally_is ∙ with_none s.tally) h;
     }
@@ -172,18 +155,17 @@ swept_running s t w arena freed r b e = not_idle s w arena b.rest s.stage b.firs
 swept_made : (s t : Shown) (w : World) (arena : ℕ) (freed : List Name) → StandsIn w.graph s w → IsSound w.graph t
     → Sweeps s arena freed t → s.told ≡ [] → IsMade s t w (report_text (report.Swept arena freed))
 swept_made s t w arena freed st sound b told =
-    let f = for_of s w st in
     let still = out_of s w arena b.rest s.stage b.first st.represents.stage_is in record {
       said = report.Swept arena freed;
-      world = swept_world s t w f arena freed b;
-      running = running_of s w st.represents (swept_running s t w arena freed st.represents b);
+      world = swept_world s t w st arena freed b;
+      running = running_world st.represents (swept_running s t w arena freed st.represents b);
       not_done = λ e. cc e;
-      lawful = swept_lawful s t w f arena freed b;
-      stands = stands_after t w (swept_world s t w f arena freed b) (report.Swept arena freed) s st
-          (swept_lawful s t w f arena freed b) refl (swept_represents s t w f arena freed b) sound;
+      lawful = swept_lawful s t w st arena freed b;
+      stands = stands_after t w (swept_world s t w st arena freed b) (report.Swept arena freed) s st
+          (swept_lawful s t w st arena freed b) (swept_represents s t w st arena freed b) sound;
       lines = ap (λ ns. report_text (report.Swept arena freed) ∷ told_lines ns)
           (sym (ap (λ (u : Shown). u.told) b.new_is ∙ told));
-      counted = λ tally so_far h. still_counted s t w (swept_world s t w f arena freed b) tally so_far
+      counted = λ tally so_far h. still_counted s t w (swept_world s t w st arena freed b) tally so_far
           (report.Swept arena freed) 1 refl still (ap (λ (u : Shown). is_prepared u.stage) b.new_is ∙ still)
           (ap (λ (u : Shown). u.tally) b.new_is) h;
     }

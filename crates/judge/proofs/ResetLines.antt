@@ -1,5 +1,5 @@
 -- Within a reset: the arenas that were swept so far, and the report with which it ends.
-use Rattle.std.proofs.Common.{◌≡◌, ◌≢◌, ◌∙◌, ℕ, List, [], ◌∷◌, ◌++◌, ap, length, refl, subst, sym}
+use Rattle.std.proofs.Common.{◌≡◌, ◌≢◌, ◌∙◌, ℕ, List, [], ◌∷◌, ◌++◌, ap, length, subst, sym}
 use Rattle.std.proofs.lemmas.List.{append-nil}
 use Rattle.gz_names.specs.declared.names.Name.{Name}
 use Rattle.gz_names.specs.declared.replies.Report.{Report}
@@ -15,7 +15,7 @@ use Rattle.judge.specs.Sound.{IsSound}
 use Rattle.judge.specs.Stages as judged
 use Rattle.judge.specs.Stages.{IsResetReport, Shown, Stops, Sweeps, idle}
 use Rattle.judge.specs.Transcripts.{lines_of_report, lines_of_reports}
-use Rattle.judge.proofs.ReportWorlds.{for_of, stands_after}
+use Rattle.judge.proofs.ReportWorlds.{stands_after}
 use Rattle.judge.proofs.Transcribing.{lines_both, sweeps_more}
 use Rattle.judge.proofs.WorldForms.{finished_lawful, finished_represents, finished_world}
 use Rattle.judge.proofs.WorldStops.{stopped_lawful, stopped_represents, stopped_world}
@@ -67,15 +67,14 @@ module _ (before : World) (g : GraphState) (s t : Shown) (part : List (List ℕ)
   pub sweep_next : (arena : ℕ) (freed : List Name) → line ≡ report_text (report.Swept arena freed)
       → Sweeps s arena freed t → HasSweptSoFar before g t (part ++ line ∷ [])
   sweep_next arena freed text b =
-      let f = for_of s h.now here in
-      let v = swept_world s t h.now f arena freed b in record {
+      record {
         sweeps = h.sweeps ++ report.Swept arena freed ∷ [];
-        now = swept_world s t h.now f arena freed b;
-        swept = sweeps_more before h.sweeps h.now arena freed (swept_world s t h.now f arena freed b) h.swept
-            (swept_lawful s t h.now f arena freed b);
-        stands = subst (λ a. StandsIn a t (swept_world s t h.now f arena freed b)) e
-            (stands_after t h.now (swept_world s t h.now f arena freed b) (report.Swept arena freed) s here
-            (swept_lawful s t h.now f arena freed b) refl (swept_represents s t h.now f arena freed b)
+        now = swept_world s t h.now here arena freed b;
+        swept = sweeps_more before h.sweeps h.now arena freed (swept_world s t h.now here arena freed b) h.swept
+            (swept_lawful s t h.now here arena freed b);
+        stands = subst (λ a. StandsIn a t (swept_world s t h.now here arena freed b)) e
+            (stands_after t h.now (swept_world s t h.now here arena freed b) (report.Swept arena freed) s here
+            (swept_lawful s t h.now here arena freed b) (swept_represents s t h.now here arena freed b)
             (subst (λ a. IsSound a t) (sym e) sound));
         some = λ i. h.some (sym (ap (λ (u : Shown). u.stage) b.new_is) ∙ i);
         none_told = ap (λ (u : Shown). u.told) b.new_is ∙ h.none_told;
@@ -84,15 +83,15 @@ module _ (before : World) (g : GraphState) (s t : Shown) (part : List (List ℕ)
 
   pub done_ends : line ≡ report_text report.Done → judged.Finishes s t → HasReset before g t (part ++ line ∷ [])
   done_ends text b =
-      let f = for_of s h.now here in record {
+      record {
         sweeps = h.sweeps;
         now = h.now;
         swept = h.swept;
         final = report.Done;
-        after = finished_world s t h.now f b;
-        ends = finished_lawful s t h.now f b;
-        represents = subst (λ a. Represents a t (finished_world s t h.now f b)) e
-            (finished_represents s t h.now f b);
+        after = finished_world s t h.now here b;
+        ends = finished_lawful s t h.now here b;
+        represents = subst (λ a. Represents a t (finished_world s t h.now here b)) e
+            (finished_represents s t h.now here b);
         idle_is = ap (λ (u : Shown). u.stage) b.new_is;
         none_told = ap (λ (u : Shown). u.told) b.new_is ∙ h.none_told;
         registers = registers_are;
@@ -103,16 +102,15 @@ module _ (before : World) (g : GraphState) (s t : Shown) (part : List (List ℕ)
   pub stop_ends : (zones : ZoneSet) → line ≡ report_text (report.Stopped zones) → Stops g s zones t
       → HasReset before g t (part ++ line ∷ [])
   stop_ends zones text b =
-      let f = for_of s h.now here in
       let st = subst (λ a. Stops a s zones t) (sym e) b in record {
         sweeps = h.sweeps;
         now = h.now;
         swept = h.swept;
         final = report.Stopped zones;
-        after = stopped_world s t h.now f zones st h.some;
-        ends = stopped_lawful s t h.now f zones st h.some;
-        represents = subst (λ a. Represents a t (stopped_world s t h.now f zones st h.some)) e
-            (stopped_represents s t h.now f zones st h.some);
+        after = stopped_world s t h.now here zones st h.some;
+        ends = stopped_lawful s t h.now here zones st h.some;
+        represents = subst (λ a. Represents a t (stopped_world s t h.now here zones st h.some)) e
+            (stopped_represents s t h.now here zones st h.some);
         idle_is = ap (λ (u : Shown). u.stage) b.new_is;
         none_told = ap (λ (u : Shown). u.told) b.new_is ∙ h.none_told;
         registers = registers_are;

@@ -17,7 +17,8 @@ use Rattle.trace_lang.specs.Grammar.{Spells}
 use Rattle.trace_lang.specs.Texts.{reply_text, report_text}
 use Rattle.judge.specs.Positions.{KeepsLaws, StandsBetween}
 use Rattle.judge.specs.Represents.{Represents}
-use Rattle.judge.specs.Replies.{Asks, Due, IsAnswered, IsDumped, IsLast, IsSliced, Judged, after_reset, answered, asked, dump}
+use Rattle.judge.specs.Replies.{Asks, Due, IsAnswered, IsDumped, IsLast, IsSliced, Judged, after_reset, answered, asked}
+use Rattle.judge.specs.Replies.{dump}
 use Rattle.judge.specs.Replies.{graph_after, marked, none, nothing, reply, resets, units}
 use Rattle.judge.specs.Sound.{IsSound}
 use Rattle.judge.specs.Stages.{IsResetReport, Shown, Stage, collecting, idle, preparing}
@@ -26,7 +27,7 @@ use Rattle.judge.specs.Transcripts.{transcript}
 use Rattle.judge.specs.Verdicts.{IsJudgedWhole}
 use Rattle.judge.proofs.FirstWorld.{first_whole}
 use Rattle.judge.proofs.LastWorlds.{closing, slice_ends, whole_ends}
-use Rattle.judge.proofs.OverBoth.{idle_of}
+use Rattle.judge.proofs.Idling.{idle_world}
 use Rattle.judge.proofs.Progress.{AreUnitsOf, IsDueNow, IsInAnswer, IsWhole, Progress, UpTo, collect, finish, slice}
 use Rattle.judge.proofs.ResetLines.{HasReset, done_ends, stop_ends, sweep_next}
 use Rattle.judge.proofs.Sound.{sound_first, sound_steps}
@@ -82,7 +83,7 @@ module _ (before : World) (laws : KeepsLaws before) (g : GraphState) (s t : Show
           units = w.0;
           done = w.2;
           reports_are = refl;
-          over = idle_of s w.1 w.4.represents idle_is;
+          over = idle_world w.4.represents idle_is;
         },
       ) in (
         flat_map (λ (u : List Report). u) w.0,
@@ -90,8 +91,8 @@ module _ (before : World) (laws : KeepsLaws before) (g : GraphState) (s t : Show
         w.1,
         lawful,
         tt,
-        closing g t before w.1 (command.Collect zones) (flat_map (λ (u : List Report). u) w.0) answer.Collected laws lawful
-            (subst (λ u. Represents g u w.1) (sym same) w.4.represents) sound
+        closing g t before w.1 (command.Collect zones) (flat_map (λ (u : List Report). u) w.0) answer.Collected laws
+            lawful (subst (λ u. Represents g u w.1) (sym same) w.4.represents) sound
             (ap (λ (u : Shown). u.told) same ∙ untold)
             (λ o. cc (o.ended, ap (λ (u : Shown). u.stage) same, idle_is))
             (ap (λ a. length a.registers) (sym w.4.represents.graph_is) ∙ w.4.laws.registers)
@@ -121,8 +122,8 @@ module _ (before : World) (laws : KeepsLaws before) (g : GraphState) (s t : Show
         h.after,
         lawful,
         tt,
-        closing g t before h.after command.Reset (h.sweeps ++ h.final ∷ []) answer.ResetDone laws lawful h.represents sound
-            h.none_told (λ o. cc (o.ended, h.idle_is)) h.registers h.slots,
+        closing g t before h.after command.Reset (h.sweeps ++ h.final ∷ []) answer.ResetDone laws lawful h.represents
+            sound h.none_told (λ o. cc (o.ended, h.idle_is)) h.registers h.slots,
         ap (λ ls. ls ++ reply_text answer.ResetDone ∷ []) (sym h.lines) ∙ ap (λ m. part ++ m ∷ []) (sym text),
       )
 
@@ -187,16 +188,16 @@ module _ (lines : List (List ℕ)) (g : GraphState) (s t : Shown) (line : List �
             ∙ ap (λ k. a.part ++ k ∷ map dump_line (m ∷ ms)) e);
       }))
 
-  last_next : (most : Option ℕ) (collects : Bool) (reports : ℕ) (a : IsInAnswer lines g s (units most collects reports))
-      → IsSound g t → IsLast most collects reports s line t → IsWhole (lines ++ line ∷ []) g t
+  last_next : (most : Option ℕ) (collects : Bool) (reports : ℕ)
+      (a : IsInAnswer lines g s (units most collects reports)) → IsSound g t → IsLast most collects reports s line t → IsWhole (lines ++ line ∷ []) g t
   last_next most collects reports a sound l =
       let p = a.progress in
       let e = last_at a.before a.laws g s t reports a.part line sound a.command most collects p.begun p.of p.running
       p.so_far l in
       closes (units most collects reports) a e.0 e.1 e.2 e.3 e.4 e.5 e.6
 
-  units_next : (most : Option ℕ) (collects : Bool) (reports : ℕ) (a : IsInAnswer lines g s (units most collects reports))
-      → IsSound g t → (next : Due) → IsAnswered g s (units most collects reports) line t next
+  units_next : (most : Option ℕ) (collects : Bool) (reports : ℕ)
+      (a : IsInAnswer lines g s (units most collects reports)) → IsSound g t → (next : Due) → IsAnswered g s (units most collects reports) line t next
       → UpTo (lines ++ line ∷ []) g t next
   units_next most collects reports a sound next (inl (reported, more, counts, fits, is)) =
       let p = a.progress in
@@ -206,7 +207,8 @@ module _ (lines : List (List ℕ)) (g : GraphState) (s t : Shown) (line : List �
         of = p.of;
         running = p.running;
         fits = fits;
-        so_far = line_next p.begun g s t reports more a.part line sound reported counts p.so_far;
+        so_far = line_next p.begun (record { graph = g; old = s; new = t; part = a.part; line = line }) reports more sound
+            reported counts p.so_far;
       }))
   units_next most collects reports a sound next (inr (l, is)) =
       subst (λ n. UpTo (lines ++ line ∷ []) g t n) (sym is) (last_next most collects reports a sound l)
@@ -221,8 +223,8 @@ module _ (lines : List (List ℕ)) (g : GraphState) (s t : Shown) (line : List �
       → HasReset a.before g t (a.part ++ line ∷ [])
       → UpTo (lines ++ line ∷ []) g t (after_reset t.stage)
   reset_due a sound h =
-      let e = reset_ends a.before a.laws g s t 0 (a.part ++ line ∷ []) (reply_text answer.ResetDone) sound a.progress.1 h
-      refl in
+      let e = reset_ends a.before a.laws g s t 0 (a.part ++ line ∷ []) (reply_text answer.ResetDone) sound
+      a.progress.1 h refl in
       subst (λ u. UpTo (lines ++ line ∷ []) g t (after_reset u)) (sym h.idle_is)
       (goes_on resets (reply (reply_text answer.ResetDone)) a
       (subst (λ c. IsDueNow a.before c g t (reply_text answer.ResetDone ∷ []) (a.part ++ line ∷ [])) (sym a.progress.0)
@@ -246,7 +248,8 @@ module _ (lines : List (List ℕ)) (g : GraphState) (s t : Shown) (line : List �
       let h = sweep_next a.before g s t a.part line sound a.progress.2 arena freed text b in
       subst (λ n. UpTo (lines ++ line ∷ []) g t n) (sym (sweeps_due t.stage h.some))
       (goes_on resets resets a (a.progress.0, a.progress.1, h))
-  resets_next a sound report.Done text b = reset_due a sound (done_ends a.before g s t a.part line sound a.progress.2 text b)
+  resets_next a sound report.Done text b =
+      reset_due a sound (done_ends a.before g s t a.part line sound a.progress.2 text b)
   resets_next a sound (report.Stopped zones) text b =
       reset_due a sound (stop_ends a.before g s t a.part line sound a.progress.2 zones text b)
 
@@ -262,7 +265,8 @@ module _ (lines : List (List ℕ)) (g : GraphState) (s t : Shown) (line : List �
       subst (λ n. UpTo (lines ++ line ∷ []) g t n) (sym is) (resets_next up sound r text b)
 
 -- a line of the trace
-within : (lines : List (List ℕ)) (g : GraphState) (t : Shown) (due : Due) → IsInAnswer lines g t due → UpTo lines g t due
+within : (lines : List (List ℕ)) (g : GraphState) (t : Shown) (due : Due) → IsInAnswer lines g t due
+    → UpTo lines g t due
 within lines g t nothing a = absurd a.progress
 within lines g t (reply text) a = a
 within lines g t (dump ls) a = a

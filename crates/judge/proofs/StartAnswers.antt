@@ -1,5 +1,5 @@
 -- A command is read: its answer has begun lawfully.
-use Rattle.std.proofs.Common.{◌≡◌, ◌≢◌, ◌∙◌, ℕ, ◌<◌, ◌^◌, inl, inr, Bool, true, false, cond, List, [], ◌∷◌, Option}
+use Rattle.std.proofs.Common.{◌≡◌, ◌≢◌, ◌∙◌, ℕ, ◌<◌, ◌^◌, inl, inr, true, false, List, [], ◌∷◌, Option}
 use Rattle.std.proofs.Common.{◌+◌, arith, Some, None, Contains, ap, refl, slice_index_or, subst, sym}
 use Rattle.std.specs.FinSet as set
 use Rattle.gz_names.specs.Zones.{zones_in}
@@ -22,26 +22,27 @@ use Rattle.colour_defs.specs.WeakRefs as defs
 use Rattle.colour_defs.specs.WeakRefs.{WeakInWorld, unwatch_cell, watch_cell, weak_cell}
 use Rattle.colour_defs.specs.World.{Has, IsPresent, World, first_preparation}
 use Rattle.colour_defs.specs.World.{first_tally}
-use Rattle.colour_defs.proofs.Lists.{contains_head}
+use Rattle.colour_defs.proofs.Lists.{choose, contains_head}
 use Rattle.colour_defs.proofs.ZoneSets.{zones_in-has}
 use Rattle.trace_lang.specs.Grammar.{Spells}
 use Rattle.trace_lang.specs.Texts.{reply_text}
 use Rattle.judge.specs.Cells.{HasCell}
 use Rattle.judge.specs.Positions.{HasCounted, StandsBetween}
 use Rattle.judge.specs.Represents.{IsAtStage, LiesInPlace, Represents}
-use Rattle.judge.specs.Replies.{AreMade, Asks, AsksCompact, AsksUnwatch, AsksWatch, AsksWeak, Begins, Due, Dumps, GoesOn}
+use Rattle.judge.specs.Replies.{AreMade, Asks, AsksCompact, AsksUnwatch, AsksWatch, AsksWeak, Begins, Due, Dumps}
+use Rattle.judge.specs.Replies.{GoesOn}
 use Rattle.judge.specs.Replies.{IsRefusal, ListsGray, begun_due, graph_after, resets, units}
 use Rattle.judge.specs.Sound.{IsSound}
 use Rattle.judge.specs.Stages as judged
-use Rattle.judge.specs.Stages.{Changes, IsSettled, Obeys, Shown, Stage, TakesNamed, collecting, idle, is_prepared, preparing}
+use Rattle.judge.specs.Stages.{Changes, IsSettled, Obeys, Shown, Stage, TakesNamed, collecting, idle, is_prepared}
+use Rattle.judge.specs.Stages.{preparing}
 use Rattle.judge.specs.Transcripts.{told_lines}
-use Rattle.judge.specs.Weak.{is_watched, weak_slot}
+use Rattle.judge.specs.Weak.{weak_slot}
 use Rattle.judge.specs.declared.former.Change.{Change}
-use Rattle.judge.specs.declared.weak.WeakNames.{WeakNames}
 use Rattle.judge.proofs.Answering.{commanded, derefed}
 use Rattle.judge.proofs.IdleWorlds.{compacted, preparing_begun}
 use Rattle.judge.proofs.LastWorlds.{closing}
-use Rattle.judge.proofs.OverBoth.{over_to, idle_of, running_of}
+use Rattle.judge.proofs.Idling.{idle_world, over_world, running_world}
 use Rattle.judge.proofs.PlainReplies.{IsPlain, named_plain, plain_step}
 use Rattle.judge.proofs.Progress.{IsDueNow, Progress, collect, finish, slice}
 use Rattle.judge.proofs.ResetLines.{HasSweptSoFar}
@@ -50,7 +51,7 @@ use Rattle.judge.proofs.Sizes.{HasSizes, command_sizes, take_sizes}
 use Rattle.judge.proofs.SpelledZones.{spelled_zones}
 use Rattle.judge.proofs.Standing.{present_is, settled_rests}
 use Rattle.judge.proofs.UnitLines.{HasUnitsSoFar, between}
-use Rattle.judge.proofs.WeakWorlds.{represents_slot, represents_unwatched, represents_watched}
+use Rattle.judge.proofs.Reweak.{represents_unwatch, represents_watch, represents_weaken}
 use Rattle.judge.proofs.WorldSweeps.{lists_same}
 
 -- what a change says of where cells lie
@@ -67,9 +68,37 @@ still_open s t stage out none o = none (record {
   none_out = sym out ∙ o.none_out;
 })
 
+-- what commands on weak slots and watched cells leave as it is
+abbrev pub KeepsStage : Shown → Shown → Type 0
+KeepsStage s t = (t.stage ≡ s.stage) × (t.out ≡ s.out) × (t.told ≡ s.told)
+
+keeps_of : (s t u : Shown) → t ≡ u → KeepsStage s u → KeepsStage s t
+keeps_of s t u same = subst (KeepsStage s) (sym same)
+
+watch_keeps : (s t : Shown) (x : Option Name) (due : Due) → AsksWatch x s due t → KeepsStage s t
+watch_keeps s t None due asks = keeps_of s t s asks.1 (refl, refl, refl)
+watch_keeps s t (Some x) due asks = keeps_of s t (record s { weak = t.weak }) asks.1 (refl, refl, refl)
+
+unwatch_keeps : (s t : Shown) (x : Option Name) (due : Due) → AsksUnwatch x s due t → KeepsStage s t
+unwatch_keeps s t None due asks = keeps_of s t s asks.1 (refl, refl, refl)
+unwatch_keeps s t (Some x) due (inl h) = keeps_of s t s h.2 (refl, refl, refl)
+unwatch_keeps s t (Some x) due (inr h) = keeps_of s t (record s { weak = t.weak }) h.2 (refl, refl, refl)
+
+watch_plain : (w : World) (x : Option Name) → IsPlain (watch_cell w x).1
+watch_plain w None = record { line = refl; small = tt }
+watch_plain w (Some x) = record { line = refl; small = tt }
+
+unwatch_plain : (w : World) (x : Option Name) → IsPlain (unwatch_cell w x).1
+unwatch_plain w None = record { line = refl; small = tt }
+unwatch_plain w (Some x) = choose (λ (p : World × Reply). IsPlain p.1) (set.contains w.weak.watched x) _ _
+    (λ _. record { line = refl; small = tt }) (λ _. record { line = refl; small = tt })
+
+refused_plain : (why : Refusal) → IsPlain (answer.Refused why)
+refused_plain why = record { line = refl; small = tt }
+
 module _ (s t : Shown) (w : World) (b : StandsBetween w.graph s w) where
   never_over : judged.IsOver s → ⊥
-  never_over o = b.not_over (over_to s w b.stands.represents o)
+  never_over o = b.not_over (over_world b.stands.represents o)
 
   -- an answer of one line, after which the world is this one
   one_line : (c : Cmd) (r : Reply) (h : GraphState) (v : World) → Answers w c [] r v → IsPlain r → Represents h t v
@@ -97,23 +126,21 @@ module _ (s t : Shown) (w : World) (b : StandsBetween w.graph s w) where
       one_line c r w.graph w lawful plain (subst (λ u. Represents w.graph u w) (sym same) b.stands.represents) sound
       (ap (λ (u : Shown). u.stage) same) (ap (λ (u : Shown). u.out) same) (ap (λ (u : Shown). u.told) same) same_sizes
 
-  refused_plain : (why : Refusal) → IsPlain (answer.Refused why)
-  refused_plain why = record { line = refl; small = tt }
-
   quietly : ChangesNothing w [] w
   quietly = record { silent = refl; same = refl }
 
   -- a collection or a compaction is refused
-  to_begin : (zones : List ℕ) (Made : Type 0) → (((z : ℕ) → Contains zones z → z < w.graph.zones) → Made) → (why : Refusal)
-      → IsRefusal Made s.stage why → RefusesToBegin w zones [] (answer.Refused why) w
+  to_begin : (zones : List ℕ) (Made : Type 0) → (((z : ℕ) → Contains zones z → z < w.graph.zones) → Made)
+      → (why : Refusal) → IsRefusal Made s.stage why → RefusesToBegin w zones [] (answer.Refused why) w
   to_begin zones Made made why (inl h) =
-      inl (ap answer.Refused h.0, running_of s w b.stands.represents h.1, quietly)
+      inl (ap answer.Refused h.0, running_world b.stands.represents h.1, quietly)
   to_begin zones Made made why (inr h) =
-      inr (ap answer.Refused h.0, idle_of s w b.stands.represents h.1, (λ m. h.2 (made m)), quietly)
+      inr (ap answer.Refused h.0, idle_world b.stands.represents h.1, (λ m. h.2 (made m)), quietly)
 
   idle_refusal : s.stage ≡ idle → RefusesIdle w [] (answer.Refused refusal.Idle) w
-  idle_refusal e = (refl, idle_of s w b.stands.represents e, quietly)
+  idle_refusal e = (refl, idle_world b.stands.represents e, quietly)
 
+module _ (s t : Shown) (w : World) (b : StandsBetween w.graph s w) where
   -- units begin in a world
   tally_at : (u : Stage) → s.stage ≡ u → u ≢ idle → IsAtStage u s w → (tally : Tally) × HasTally w tally
       × HasCounted s w tally []
@@ -150,26 +177,23 @@ module _ (s t : Shown) (w : World) (b : StandsBetween w.graph s w) where
     counted = t.2;
   }
 
+module _ (s t : Shown) (w : World) (b : StandsBetween w.graph s w) where
   -- a command on the graph
   graph_starts : PlacesCells → (c : GraphCmd) → Obeys w.graph c s t → IsSound (step_of w.graph c).0 t
       → IsDueNow w (command.Graph c) (step_of w.graph c).0 t (reply_text (step_of w.graph c).1 ∷ []) []
   graph_starts places c obeys sound =
       let lies = places _ _ _ _ s t obeys.changes in
       let made = commanded c s t w b.stands obeys lies in
-      one_line (command.Graph c) (step_of w.graph c).1 (step_of w.graph c).0 made.0 (refl, made.1)
+      (one_line s t w b) (command.Graph c) (step_of w.graph c).1 (step_of w.graph c).0 made.0 (refl, made.1)
       (plain_step w.graph c) made.2 sound obeys.changes.stage_is obeys.changes.out_is obeys.changes.told_is
       (command_sizes w.graph c)
 
   -- weak slots and watched cells
-  accepted : IsPlain answer.Accepted
-  accepted = record { line = refl; small = tt }
-
-  weak_line : (c : WeakCmd) (r : Reply) (v : World) (weak : WeakNames) → WeakInWorld w c r v → IsPlain r
-      → t ≡ record s { weak = weak } → Represents w.graph (record s { weak = weak }) v → IsSound w.graph t
-      → IsDueNow w (command.Weak c) w.graph t (reply_text r ∷ []) []
-  weak_line c r v weak lawful plain same rep sound = one_line (command.Weak c) r w.graph v (refl, lawful) plain
-      (subst (λ u. Represents w.graph u v) (sym same) rep) sound (ap (λ (u : Shown). u.stage) same)
-      (ap (λ (u : Shown). u.out) same) (ap (λ (u : Shown). u.told) same) same_sizes
+  weak_line : (c : WeakCmd) (r : Reply) (v : World) → WeakInWorld w c r v → IsPlain r → KeepsStage s t
+      → Represents w.graph t v → IsSound w.graph t → IsDueNow w (command.Weak c) w.graph t (reply_text r ∷ []) []
+  weak_line c r v lawful plain keeps rep sound =
+      one_line s t w b (command.Weak c) r w.graph v (refl, lawful) plain rep sound keeps.0 keeps.1 keeps.2
+      (same_sizes s t w b)
 
   deref_starts : PlacesCells → (r q : ℕ) → TakesNamed w.graph r (weak_cell w q) s t
       → IsSound (with_register w.graph r (weak_cell w q)) t
@@ -178,59 +202,27 @@ module _ (s t : Shown) (w : World) (b : StandsBetween w.graph s w) where
   deref_starts places r q taken sound =
       let lies = places _ _ _ _ s t taken.changes in
       let made = derefed r q s t w b.stands taken lies in
-      one_line (command.Weak (weak_command.Deref r q)) (named_or_null (weak_cell w q))
+      (one_line s t w b) (command.Weak (weak_command.Deref r q)) (named_or_null (weak_cell w q))
       (with_register w.graph r (weak_cell w q)) made.0 (refl, made.1) (named_plain (weak_cell w q)) made.2 sound
       taken.changes.stage_is taken.changes.out_is taken.changes.told_is (take_sizes w.graph r (weak_cell w q))
 
-  watch_starts : (r : ℕ) (x : Option Name) → register_cell w.graph r ≡ x → (due : Due) → AsksWatch x s due t
-      → IsSound w.graph t → Progress w (command.Weak (weak_command.Watch r)) w.graph t due []
-  watch_starts r None e due asks sound =
-      subst (λ d. Progress w (command.Weak (weak_command.Watch r)) w.graph t d []) (sym asks.0)
-      (no_change (command.Weak (weak_command.Watch r)) (answer.Refused refusal.Empty)
-      (refl, (ap (λ o. (watch_cell w o).1) (sym e), ap (λ o. (watch_cell w o).0) (sym e)))
-      (refused_plain refusal.Empty) asks.1 sound)
-  watch_starts r (Some x) e due asks sound =
-      subst (λ d. Progress w (command.Weak (weak_command.Watch r)) w.graph t d []) (sym asks.0)
-      (weak_line (weak_command.Watch r) answer.Accepted (defs.with_watched w x) t.weak
-      (ap (λ o. (watch_cell w o).1) (sym e), ap (λ o. (watch_cell w o).0) (sym e)) accepted asks.1
-      (represents_watched s x t.weak w b.stands.represents asks.2) sound)
+  watch_starts : (r : ℕ) (due : Due) → AsksWatch (register_cell w.graph r) s due t → IsSound w.graph t
+      → Progress w (command.Weak (weak_command.Watch r)) w.graph t due []
+  watch_starts r due asks sound =
+      let x = register_cell w.graph r in
+      let is = represents_watch x due s t w (watch_cell w x).0 b.stands.represents asks refl in
+      subst (λ d. Progress w (command.Weak (weak_command.Watch r)) w.graph t d []) (sym is.1)
+      (weak_line (weak_command.Watch r) (watch_cell w x).1 (watch_cell w x).0 (refl, refl) (watch_plain w x)
+      (watch_keeps s t x due asks) is.0 sound)
 
-  is_it_watched : (x : Name) (v : Bool) → is_watched s.weak x ≡ v → set.contains w.weak.watched x ≡ v
-  is_it_watched x true e = (b.stands.represents.watched_are x).1 e
-  is_it_watched x false e = go (set.contains w.weak.watched x) refl
-    where
-      go : (v : Bool) → set.contains w.weak.watched x ≡ v → v ≡ false
-      go true at = absurd (cc (e, (b.stands.represents.watched_are x).0 at))
-      go false at = refl
-
-  unwatch_starts : (r : ℕ) (x : Option Name) → register_cell w.graph r ≡ x → (due : Due) → AsksUnwatch x s due t
-      → IsSound w.graph t → Progress w (command.Weak (weak_command.Unwatch r)) w.graph t due []
-  unwatch_starts r None e due asks sound =
-      subst (λ d. Progress w (command.Weak (weak_command.Unwatch r)) w.graph t d []) (sym asks.0)
-      (no_change (command.Weak (weak_command.Unwatch r)) (answer.Refused refusal.Empty)
-      (refl, (ap (λ o. (unwatch_cell w o).1) (sym e), ap (λ o. (unwatch_cell w o).0) (sym e)))
-      (refused_plain refusal.Empty) asks.1 sound)
-  unwatch_starts r (Some x) e due (inl (was, is, same)) sound =
-      let out = ap (λ (v : Bool). cond {A = World × Reply} v (defs.without_watched w x, answer.Accepted)
-      (w, answer.Absent)) (is_it_watched x false was) in
-      subst (λ d. Progress w (command.Weak (weak_command.Unwatch r)) w.graph t d []) (sym is)
-      (no_change (command.Weak (weak_command.Unwatch r)) answer.Absent (
-        refl,
-        (
-          sym (ap (λ o. (unwatch_cell w o).1) e ∙ ap (λ p. p.1) out),
-          sym (ap (λ o. (unwatch_cell w o).0) e ∙ ap (λ p. p.0) out),
-        ),
-      )
-      (record { line = refl; small = tt }) same sound)
-  unwatch_starts r (Some x) e due (inr (was, is, same, n)) sound =
-      let out = ap (λ (v : Bool). cond {A = World × Reply} v (defs.without_watched w x, answer.Accepted)
-      (w, answer.Absent)) (is_it_watched x true was) in
-      subst (λ d. Progress w (command.Weak (weak_command.Unwatch r)) w.graph t d []) (sym is)
-      (weak_line (weak_command.Unwatch r) answer.Accepted (defs.without_watched w x) t.weak (
-        sym (ap (λ o. (unwatch_cell w o).1) e ∙ ap (λ p. p.1) out),
-        sym (ap (λ o. (unwatch_cell w o).0) e ∙ ap (λ p. p.0) out),
-      ) accepted same
-      (represents_unwatched s x t.weak w b.stands.represents n) sound)
+  unwatch_starts : (r : ℕ) (due : Due) → AsksUnwatch (register_cell w.graph r) s due t → IsSound w.graph t
+      → Progress w (command.Weak (weak_command.Unwatch r)) w.graph t due []
+  unwatch_starts r due asks sound =
+      let x = register_cell w.graph r in
+      let is = represents_unwatch x due s t w (unwatch_cell w x).0 b.stands.represents asks refl in
+      subst (λ d. Progress w (command.Weak (weak_command.Unwatch r)) w.graph t d []) (sym is.1)
+      (weak_line (weak_command.Unwatch r) (unwatch_cell w x).1 (unwatch_cell w x).0 (refl, refl) (unwatch_plain w x)
+      (unwatch_keeps s t x due asks) is.0 sound)
 
   named_same : (q : ℕ) → weak_cell w q ≡ weak_slot s.weak q
   named_same q = ap (λ xs. slice_index_or xs q None) b.stands.represents.slots_are
@@ -240,39 +232,49 @@ module _ (s t : Shown) (w : World) (b : StandsBetween w.graph s w) where
       → Progress w (command.Weak c) (graph_after w.graph s (command.Weak c)) t due []
   weak_starts places (weak_command.Weaken q r) due asks sound =
       subst (λ d. Progress w (command.Weak (weak_command.Weaken q r)) w.graph t d []) (sym asks.0)
-      (weak_line (weak_command.Weaken q r) answer.Accepted (defs.with_weak_slot w q (register_cell w.graph r)) _
-      (refl, refl) accepted asks.1 (represents_slot s q (register_cell w.graph r) w b.stands.represents) sound)
+      (weak_line (weak_command.Weaken q r) answer.Accepted (defs.with_weak_slot w q (register_cell w.graph r))
+      (refl, refl) (record { line = refl; small = tt }) (
+        ap (λ (u : Shown). u.stage) asks.1,
+        ap (λ (u : Shown). u.out) asks.1,
+        ap (λ (u : Shown). u.told) asks.1,
+      )
+      (represents_weaken q r answer.Accepted due s t w (defs.with_weak_slot w q (register_cell w.graph r))
+      b.stands.represents asks (refl, refl)) sound)
   weak_starts places (weak_command.Deref r q) due asks sound =
-      subst (λ d. Progress w (command.Weak (weak_command.Deref r q)) (with_register w.graph r (weak_slot s.weak q)) t d [])
+      subst (λ d.
+      Progress w (command.Weak (weak_command.Deref r q)) (with_register w.graph r (weak_slot s.weak q)) t d [])
       (sym asks.0)
       (subst (λ x. IsDueNow w (command.Weak (weak_command.Deref r q)) (with_register w.graph r x) t
       (reply_text (named_or_null x) ∷ []) []) (named_same q)
       (deref_starts places r q (subst (λ x. TakesNamed w.graph r x s t) (sym (named_same q)) asks.1)
       (subst (λ x. IsSound (with_register w.graph r x) t) (sym (named_same q)) sound)))
-  weak_starts places (weak_command.Watch r) due asks sound = watch_starts r (register_cell w.graph r) refl due asks sound
+  weak_starts places (weak_command.Watch r) due asks sound = watch_starts r due asks sound
   weak_starts places (weak_command.Unwatch r) due asks sound =
-      unwatch_starts r (register_cell w.graph r) refl due asks sound
+      unwatch_starts r due asks sound
 
+module _ (s t : Shown) (w : World) (b : StandsBetween w.graph s w) where
   -- colours and dumps
-  colours_start : (due : Due) → ListsGray s due → t ≡ s → IsSound w.graph t → Progress w command.Colours w.graph t due []
+  colours_start : (due : Due) → ListsGray s due → t ≡ s → IsSound w.graph t
+      → Progress w command.Colours w.graph t due []
   colours_start due (inl (still, names, lists, is)) same sound =
       let black = b.stands.represents.black_are still in
       subst (λ d. Progress w command.Colours w.graph t d []) (sym is)
-      (no_change command.Colours (answer.Gray names)
+      (no_change s t w b command.Colours (answer.Gray names)
       (inl (
         names,
         refl,
         settled_world b.stands.represents b.stands.laws.valid still,
-        lists_same (λ x. HasCell s.cells x × (Contains s.black.names x → ⊥)) (λ x. IsPresent w x × (Has w.black x → ⊥)) names
+        lists_same (λ x. HasCell s.cells x × (Contains s.black.names x → ⊥))
+            (λ x. IsPresent w x × (Has w.black x → ⊥)) names
             (λ x h. ((present_is b.stands.represents x).1 h.0, λ k. h.1 ((black.names_are x).0 k)))
             (λ x h. ((present_is b.stands.represents x).0 h.0, λ k. h.1 ((black.names_are x).1 k))) lists,
-        quietly,
+        (quietly s t w b),
       ))
       (record { line = refl; small = tt }) same sound)
   colours_start due (inr (moves, is)) same sound =
       subst (λ d. Progress w command.Colours w.graph t d []) (sym is)
-      (no_change command.Colours (answer.Refused refusal.Marking)
-      (inr (refl, (λ k. moves (settled_stage b.stands.represents b.stands.laws.valid k)), quietly))
+      (no_change s t w b command.Colours (answer.Refused refusal.Marking)
+      (inr (refl, (λ k. moves (settled_stage b.stands.represents b.stands.laws.valid k)), (quietly s t w b)))
       (refused_plain refusal.Marking) same sound)
 
   dump_starts : (due : Due) → Dumps w.graph s due → t ≡ s → IsSound w.graph t → Progress w command.Dump w.graph t due []
@@ -283,7 +285,7 @@ module _ (s t : Shown) (w : World) (b : StandsBetween w.graph s w) where
         refl,
         settled_world b.stands.represents b.stands.laws.valid still,
         lists w (settled_rests b.stands.represents still),
-        quietly,
+        (quietly s t w b),
       ) in
       subst (λ d. Progress w command.Dump w.graph t d []) (sym is) (record {
         reports = [];
@@ -294,16 +296,17 @@ module _ (s t : Shown) (w : World) (b : StandsBetween w.graph s w) where
         stands = closing w.graph t w w command.Dump [] (answer.Dump lines) b.stands.laws lawful
             (subst (λ u. Represents w.graph u w) (sym same) b.stands.represents) sound
             (ap (λ (u : Shown). u.told) same ∙ b.none_told)
-            (still_open s t (ap (λ (u : Shown). u.stage) same) (ap (λ (u : Shown). u.out) same) never_over)
+            (still_open s t (ap (λ (u : Shown). u.stage) same) (ap (λ (u : Shown). u.out) same) (never_over s t w b))
             b.stands.laws.registers b.stands.laws.slots;
         lines = refl;
       })
   dump_starts due (inr (moves, is)) same sound =
       subst (λ d. Progress w command.Dump w.graph t d []) (sym is)
-      (no_change command.Dump (answer.Refused refusal.Marking)
-      (inr (refl, (λ k. moves (settled_stage b.stands.represents b.stands.laws.valid k)), quietly))
+      (no_change s t w b command.Dump (answer.Refused refusal.Marking)
+      (inr (refl, (λ k. moves (settled_stage b.stands.represents b.stands.laws.valid k)), (quietly s t w b)))
       (refused_plain refusal.Marking) same sound)
 
+module _ (s t : Shown) (w : World) (b : StandsBetween w.graph s w) where
   -- a collection begins
   zones_made : (zones : ZoneSet) → ((z : ℕ) → Contains (zones_in zones) z → z < w.graph.zones) → AreMade w.graph zones
   zones_made zones h z has = h z ((zones_in-has zones z).1 has)
@@ -313,9 +316,9 @@ module _ (s t : Shown) (w : World) (b : StandsBetween w.graph s w) where
       → Progress w (command.Gc zones) w.graph t due []
   gc_starts zones size due (inl (why, refuses, is, same)) sound =
       subst (λ d. Progress w (command.Gc zones) w.graph t d []) (sym is)
-      (no_change (command.Gc zones) (answer.Refused why)
-      (inr (to_begin (zones_in zones) (AreMade w.graph zones) (zones_made zones) why refuses)) (refused_plain why) same
-      sound)
+      (no_change s t w b (command.Gc zones) (answer.Refused why)
+      (inr (to_begin s t w b (zones_in zones) (AreMade w.graph zones) (zones_made zones) why refuses))
+      (refused_plain why) same sound)
   gc_starts zones size due (inr (idle_is, made, is, leaves, new_is)) sound =
       let begun = preparing_begun w.graph zones s t w b.stands.represents b.stands.laws.valid size.0 size.1 idle_is made
       leaves new_is in
@@ -337,9 +340,9 @@ module _ (s t : Shown) (w : World) (b : StandsBetween w.graph s w) where
       → Progress w (command.Collect zones) w.graph t due []
   collect_starts zones size due (inl (why, refuses, is, same)) sound =
       subst (λ d. Progress w (command.Collect zones) w.graph t d []) (sym is)
-      (no_change (command.Collect zones) (answer.Refused why)
-      (inr (to_begin (zones_in zones) (AreMade w.graph zones) (zones_made zones) why refuses)) (refused_plain why) same
-      sound)
+      (no_change s t w b (command.Collect zones) (answer.Refused why)
+      (inr (to_begin s t w b (zones_in zones) (AreMade w.graph zones) (zones_made zones) why refuses))
+      (refused_plain why) same sound)
   collect_starts zones size due (inr (idle_is, made, is, leaves, new_is)) sound =
       let begun = preparing_begun w.graph zones s t w b.stands.represents b.stands.laws.valid size.0 size.1 idle_is made
       leaves new_is in
@@ -371,9 +374,10 @@ module _ (s t : Shown) (w : World) (b : StandsBetween w.graph s w) where
         };
       })
 
+module _ (s t : Shown) (w : World) (b : StandsBetween w.graph s w) where
   -- units
   of_same : (most : Option ℕ) → t ≡ s → s.stage ≢ idle → HasUnitsSoFar w w.graph t 0 []
-  of_same most same some = subst (λ u. HasUnitsSoFar w w.graph u 0 []) (sym same) (no_units some)
+  of_same most same some = subst (λ u. HasUnitsSoFar w w.graph u 0 []) (sym same) (no_units s t w b some)
 
   slice_starts : (n : ℕ) (due : Due) → GoesOn (units (Some n) false 0) s.stage due → t ≡ s → IsSound w.graph t
       → Progress w (command.Slice n) w.graph t due []
@@ -381,13 +385,13 @@ module _ (s t : Shown) (w : World) (b : StandsBetween w.graph s w) where
       subst (λ d. Progress w (command.Slice n) w.graph t d []) (sym is) (record {
         begun = w;
         of = slice;
-        running = running_of s w b.stands.represents some;
+        running = running_world b.stands.represents some;
         fits = λ m e. omega arith;
         so_far = of_same (Some n) same some;
       })
   slice_starts n due (inr (idle_is, is)) same sound =
       subst (λ d. Progress w (command.Slice n) w.graph t d []) (sym is)
-      (no_change (command.Slice n) (answer.Refused refusal.Idle) (inr (idle_refusal idle_is))
+      (no_change s t w b (command.Slice n) (answer.Refused refusal.Idle) (inr (idle_refusal s t w b idle_is))
       (refused_plain refusal.Idle) same sound)
 
   finish_starts : (due : Due) → GoesOn (units None false 0) s.stage due → t ≡ s → IsSound w.graph t
@@ -396,13 +400,14 @@ module _ (s t : Shown) (w : World) (b : StandsBetween w.graph s w) where
       subst (λ d. Progress w command.Finish w.graph t d []) (sym is) (record {
         begun = w;
         of = finish;
-        running = running_of s w b.stands.represents some;
+        running = running_world b.stands.represents some;
         fits = λ m e. omega arith;
         so_far = of_same None same some;
       })
   finish_starts due (inr (idle_is, is)) same sound =
       subst (λ d. Progress w command.Finish w.graph t d []) (sym is)
-      (no_change command.Finish (answer.Refused refusal.Idle) (inr (idle_refusal idle_is)) (refused_plain refusal.Idle)
+      (no_change s t w b command.Finish (answer.Refused refusal.Idle) (inr (idle_refusal s t w b idle_is))
+      (refused_plain refusal.Idle)
       same sound)
 
   -- a reset
@@ -411,7 +416,7 @@ module _ (s t : Shown) (w : World) (b : StandsBetween w.graph s w) where
   reset_starts due (inl (some, is)) same sound =
       subst (λ d. Progress w command.Reset w.graph t d []) (sym is) (
         refl,
-        running_of s w b.stands.represents some,
+        running_world b.stands.represents some,
         subst (λ u. HasSweptSoFar w w.graph u []) (sym same) (record {
           sweeps = [];
           now = w;
@@ -424,7 +429,8 @@ module _ (s t : Shown) (w : World) (b : StandsBetween w.graph s w) where
       )
   reset_starts due (inr (idle_is, is)) same sound =
       subst (λ d. Progress w command.Reset w.graph t d []) (sym is)
-      (no_change command.Reset (answer.Refused refusal.Idle) (inr (idle_refusal idle_is)) (refused_plain refusal.Idle)
+      (no_change s t w b command.Reset (answer.Refused refusal.Idle) (inr (idle_refusal s t w b idle_is))
+      (refused_plain refusal.Idle)
       same sound)
 
   -- a compaction
@@ -432,32 +438,35 @@ module _ (s t : Shown) (w : World) (b : StandsBetween w.graph s w) where
       → Progress w (command.Compact zone) w.graph t due []
   compact_starts zone due (inl (why, refuses, is, same)) sound =
       subst (λ d. Progress w (command.Compact zone) w.graph t d []) (sym is)
-      (no_change (command.Compact zone) (answer.Refused why)
-      (inr (to_begin (zone ∷ []) (zone < w.graph.zones) (λ m. m zone (contains_head zone [])) why refuses))
+      (no_change s t w b (command.Compact zone) (answer.Refused why)
+      (inr (to_begin s t w b (zone ∷ []) (zone < w.graph.zones) (λ m. m zone (contains_head zone [])) why refuses))
       (refused_plain why) same sound)
   compact_starts zone due (inr (idle_is, made, moved, given, is, packs)) sound =
       let c = compacted w.graph zone s t moved given w b.stands.represents idle_is packs in
       subst (λ d. Progress w (command.Compact zone) w.graph t d []) (sym is)
-      (one_line (command.Compact zone) (answer.Compacted moved given) w.graph c.0 (inl (moved, given, refl, refl, c.1))
+      (one_line s t w b (command.Compact zone) (answer.Compacted moved given) w.graph c.0
+      (inl (moved, given, refl, refl, c.1))
       (record { line = refl; small = tt }) c.2 sound (ap (λ (u : Shown). u.stage) packs.new_is)
-      (ap (λ (u : Shown). u.out) packs.new_is) (ap (λ (u : Shown). u.told) packs.new_is) same_sizes)
+      (ap (λ (u : Shown). u.out) packs.new_is) (ap (λ (u : Shown). u.told) packs.new_is) (same_sizes s t w b))
 
+module _ (s t : Shown) (w : World) (b : StandsBetween w.graph s w) where
   -- any command
   starts_at : PlacesCells → (text : List ℕ) (c : Cmd) → Spells text c → (due : Due) → Asks w.graph s c due t
       → IsSound (graph_after w.graph s c) t → Progress w c (graph_after w.graph s c) t due []
   starts_at places text (command.Graph c) spells due (is, obeys) sound =
-      subst (λ d. Progress w (command.Graph c) (step_of w.graph c).0 t d []) (sym is) (graph_starts places c obeys sound)
+      subst (λ d. Progress w (command.Graph c) (step_of w.graph c).0 t d []) (sym is)
+      (graph_starts s t w b places c obeys sound)
   starts_at places text (command.Gc zones) spells due asks sound =
-      gc_starts zones (spelled_zones text (command.Gc zones) zones spells (inl refl)) due asks sound
-  starts_at places text (command.Slice n) spells due (goes, same) sound = slice_starts n due goes same sound
-  starts_at places text command.Finish spells due (goes, same) sound = finish_starts due goes same sound
+      gc_starts s t w b zones (spelled_zones text (command.Gc zones) zones spells (inl refl)) due asks sound
+  starts_at places text (command.Slice n) spells due (goes, same) sound = slice_starts s t w b n due goes same sound
+  starts_at places text command.Finish spells due (goes, same) sound = finish_starts s t w b due goes same sound
   starts_at places text (command.Collect zones) spells due asks sound =
-      collect_starts zones (spelled_zones text (command.Collect zones) zones spells (inr refl)) due asks sound
-  starts_at places text command.Colours spells due (lists, same) sound = colours_start due lists same sound
-  starts_at places text command.Dump spells due (dumps, same) sound = dump_starts due dumps same sound
-  starts_at places text command.Reset spells due (goes, same) sound = reset_starts due goes same sound
-  starts_at places text (command.Weak c) spells due asks sound = weak_starts places c due asks sound
-  starts_at places text (command.Compact zone) spells due asks sound = compact_starts zone due asks sound
+      collect_starts s t w b zones (spelled_zones text (command.Collect zones) zones spells (inr refl)) due asks sound
+  starts_at places text command.Colours spells due (lists, same) sound = colours_start s t w b due lists same sound
+  starts_at places text command.Dump spells due (dumps, same) sound = dump_starts s t w b due dumps same sound
+  starts_at places text command.Reset spells due (goes, same) sound = reset_starts s t w b due goes same sound
+  starts_at places text (command.Weak c) spells due asks sound = weak_starts s t w b places c due asks sound
+  starts_at places text (command.Compact zone) spells due asks sound = compact_starts s t w b zone due asks sound
 
 -- a command that the judge has read, in the world before it
 pub starts : PlacesCells → (g : GraphState) (s t : Shown) (w : World) → StandsBetween g s w → (text : List ℕ) (c : Cmd)

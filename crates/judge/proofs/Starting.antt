@@ -20,7 +20,7 @@ use Rattle.plain_graph.specs.Reach.{IsDone, WalkState}
 use Rattle.judge.specs.Bounds.{StandsPrepared, marking_tally}
 use Rattle.judge.specs.Positions.{StandsIn}
 use Rattle.judge.specs.Represents.{AreWaiting, HasFirstBlack, HasFound, IsCollected, IsPrepared, Represents}
-use Rattle.judge.specs.Stages.{Shown, Starts, collecting, preparing}
+use Rattle.judge.specs.Stages.{Shown, Starts, collecting}
 use Rattle.judge.specs.Starts.{IsInRegister, IsInSlot, IsOutside}
 use Rattle.judge.specs.Walks.{Walks}
 use Rattle.judge.specs.Weak.{IsWatched}

@@ -1,5 +1,6 @@
 -- A transcript with one answer more, and lines with one line more.
-use Rattle.std.proofs.Common.{◌≡◌, ◌∙◌, ℕ, zero, suc, length, ◌+◌, List, [], ◌∷◌, ◌++◌, append_assoc, ap, arith, refl, subst, sym}
+use Rattle.std.proofs.Common.{◌≡◌, ◌∙◌, ℕ, zero, suc, length, ◌+◌, List, [], ◌∷◌, ◌++◌, append_assoc, ap, arith, refl}
+use Rattle.std.proofs.Common.{subst, sym}
 use Rattle.std.proofs.lemmas.List.{append-nil}
 use Rattle.std.specs.List.{flat_map}
 use Rattle.gz_io.specs.Lines.{EndsLine}
@@ -7,7 +8,8 @@ use Rattle.gz_names.specs.declared.names.Name.{Name}
 use Rattle.gz_names.specs.declared.commands.Cmd.{Cmd}
 use Rattle.gz_names.specs.declared.replies.Report.{Report}
 use Rattle.gz_names.specs.declared.replies.Report.TheVariants as report
-use Rattle.colour_defs.specs.Lawful.{Answers, AreLawfulSweeps, AreLawfulUnits, IsLawfulSweep, IsLawfulUnit, IsRunning, Run, quiet}
+use Rattle.colour_defs.specs.Lawful.{Answers, AreLawfulSweeps, AreLawfulUnits, IsLawfulSweep, IsLawfulUnit, IsRunning}
+use Rattle.colour_defs.specs.Lawful.{Run, quiet}
 use Rattle.colour_defs.specs.Units.{sweeps_in}
 use Rattle.colour_defs.specs.World.{World, first_world}
 use Rattle.trace_lang.specs.Grammar.{Spells}

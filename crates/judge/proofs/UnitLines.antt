@@ -11,7 +11,6 @@ use Rattle.colour_defs.specs.Lawful.{AreLawfulUnits, HasTally, IsLawfulReport, I
 use Rattle.colour_defs.specs.Units.{Tally}
 use Rattle.colour_defs.specs.World.{World}
 use Rattle.colour_defs.proofs.Lists.{length_push}
-use Rattle.colour_defs.proofs.ValidReports.{report_valid}
 use Rattle.trace_lang.specs.Texts.{name_words, report_text, told_text}
 use Rattle.judge.specs.Positions.{HasCounted, StandsIn}
 use Rattle.judge.specs.Replies.{Counts, IsUncounted}
@@ -20,9 +19,11 @@ use Rattle.judge.specs.Sound.{IsSound}
 use Rattle.judge.specs.Stages as judged
 use Rattle.judge.specs.Stages.{IsReported, IsReportedLine, IsToldLine, Shown, collecting, is_prepared}
 use Rattle.judge.specs.Transcripts.{lines_of_report, lines_of_reports, told_lines}
-use Rattle.judge.proofs.LiveReports.{report_live}
-use Rattle.judge.proofs.OverBoth.{over_back, over_or, over_to, represents_told}
-use Rattle.judge.proofs.ReportWorlds.{for_of, report_made, still_counted, with_none}
+use Rattle.judge.proofs.Idling.{over_shown, over_world}
+use Rattle.judge.proofs.Lawfulness.{laws_report}
+use Rattle.judge.proofs.OverBoth.{over_or}
+use Rattle.judge.proofs.Reweak.{represents_told}
+use Rattle.judge.proofs.ReportWorlds.{report_made, still_counted, with_none}
 use Rattle.judge.proofs.Transcribing.{flat_more, lines_both, units_more}
 use Rattle.judge.proofs.WorldForms.{finished_lawful, finished_represents, finished_world}
 
@@ -55,23 +56,38 @@ told_is (x ∷ xs) line e =
     let same : codes "told" ++ name_words (x ∷ xs) ≡ line = cc e in
     (ap (λ l. l ∷ []) same, inr (_, sym same))
 
-module _ (begun : World) (g : GraphState) (s t : Shown) (reports : ℕ) (part : List (List ℕ)) (line : List ℕ) where
-  told_next : (more : ℕ) → HasUnitsSoFar begun g s reports part → IsSound g t → IsToldLine s line t
-      → Counts reports line more → HasUnitsSoFar begun g t more (part ++ line ∷ [])
+-- a line that is read, the lines of its answer before it, and what is shown before it and after it
+pub record Reading : Type 0 where
+  pub graph : GraphState
+  pub old : Shown
+  pub new : Shown
+  pub part : List (List ℕ)
+  pub line : List ℕ
+
+-- what an answer with units has written so far, without the line that is read, and with it
+abbrev pub HasUnitsBefore : World → Reading → ℕ → Type 0
+HasUnitsBefore begun n reports = HasUnitsSoFar begun n.graph n.old reports n.part
+
+abbrev pub HasUnitsThen : World → Reading → ℕ → Type 0
+HasUnitsThen begun n more = HasUnitsSoFar begun n.graph n.new more (n.part ++ n.line ∷ [])
+
+-- the line that tells watched cells
+module _ (begun : World) (n : Reading) (reports : ℕ) where
+  told_next : (more : ℕ) → HasUnitsBefore begun n reports → IsSound n.graph n.new → IsToldLine n.old n.line n.new
+      → Counts reports n.line more → HasUnitsThen begun n more
   told_next more h sound (text, same) counts =
-      let is = told_is s.told line text in record {
+      let is = told_is n.old.told n.line text in
+      record {
         units = h.units;
         tail = h.tail;
         now = h.now;
         state = h.state;
         stands = record {
-          represents = subst (λ u. Represents g u h.now) (sym same)
-              (represents_told s [] h.now h.stands.represents);
+          represents = represents_told n.graph n.old n.new h.now h.stands.represents same;
           laws = h.stands.laws;
           sound = sound;
         };
-        lines = append-nil_told (ap (λ (u : Shown). u.told) same)
-            ∙ ap (λ ls. part ++ ls) (sym is.0) ∙ h.lines;
+        lines = all_said (ap (λ (u : Shown). u.told) same) ∙ ap (λ ls. n.part ++ ls) (sym is.0) ∙ h.lines;
         count = still (is.1) ∙ h.count;
         tally = h.tally;
         has_tally = h.has_tally;
@@ -79,10 +95,10 @@ module _ (begun : World) (g : GraphState) (s t : Shown) (reports : ℕ) (part : 
             (record { prepared = h.counted.prepared; begun = h.counted.begun });
       }
     where
-      append-nil_told : t.told ≡ [] → (part ++ line ∷ []) ++ told_lines t.told ≡ part ++ line ∷ []
-      append-nil_told e = ap (λ ns. (part ++ line ∷ []) ++ told_lines ns) e ∙ append-nil (part ++ line ∷ [])
+      all_said : n.new.told ≡ [] → (n.part ++ n.line ∷ []) ++ told_lines n.new.told ≡ n.part ++ n.line ∷ []
+      all_said e = ap (λ ns. (n.part ++ n.line ∷ []) ++ told_lines ns) e ∙ append-nil (n.part ++ n.line ∷ [])
 
-      still : IsUncounted line → more ≡ reports
+      still : IsUncounted n.line → more ≡ reports
       still un = elim counts [ inl c ↦ c.1 | inr c ↦ absurd (c.0 un) ]
 
 -- a report but `done` is counted
@@ -116,14 +132,34 @@ done_due g s t (report.Swept arena freed) n o b = cc (o.none_out, b.first)
 done_due g s t report.Done n o b = n refl
 done_due g s t (report.Stopped zones) n o b = b
 
-module _ (begun : World) (g : GraphState) (s t : Shown) (reports more : ℕ) (part : List (List ℕ)) (line : List ℕ)
-    (sound : IsSound g t) (none_told : s.told ≡ []) (counts : Counts reports line more) where
+-- the line is no line that tells watched cells
+pub record IsNext (n : Reading) (reports more : ℕ) : Type 0 where
+  pub sound : IsSound n.graph n.new
+  pub none_told : n.old.told ≡ []
+  pub counts : Counts reports n.line more
+
+module _ (begun : World) (n : Reading) (reports more : ℕ) (is : IsNext n reports more) where
+  abbrev g : GraphState
+  g = n.graph
+
+  abbrev s : Shown
+  s = n.old
+
+  abbrev t : Shown
+  t = n.new
+
+  abbrev part : List (List ℕ)
+  part = n.part
+
+  abbrev line : List ℕ
+  line = n.line
+
   abbrev Next : Type 0
-  Next = HasUnitsSoFar begun g t more (part ++ line ∷ [])
+  Next = HasUnitsThen begun n more
 
   -- the lines so far, where none is due that tells watched cells
   part_is : (rs : List Report) → part ++ told_lines s.told ≡ lines_of_reports rs → part ≡ lines_of_reports rs
-  part_is rs e = sym (append-nil part) ∙ ap (λ ns. part ++ told_lines ns) (sym none_told) ∙ e
+  part_is rs e = sym (append-nil part) ∙ ap (λ ns. part ++ told_lines ns) (sym is.none_told) ∙ e
 
   lines_now : (rs : List Report) (said : Report) → part ≡ lines_of_reports rs
       → lines_of_report said ≡ line ∷ told_lines t.told
@@ -136,7 +172,7 @@ module _ (begun : World) (g : GraphState) (s t : Shown) (reports more : ℕ) (pa
   -- a report but `done`
   module _ (r : Report) (not_done : r ≢ report.Done) (text : line ≡ report_text r) (b : IsReported g s r t) where
     one_more : more ≡ reports + 1
-    one_more = elim counts [
+    one_more = elim is.counts [
       | inl c ↦ absurd (counted_line r not_done (subst IsUncounted text c.0))
       | inr c ↦ c.1
     ]
@@ -146,14 +182,15 @@ module _ (begun : World) (g : GraphState) (s t : Shown) (reports more : ℕ) (pa
         → reports ≡ length units + length tail → (tally : Tally) → HasTally begun tally
         → HasCounted s now tally (flat_map (λ u. u) units ++ tail) → Next
     report_at units (x ∷ []) now (ending u lu run nd lawful over) st lines count tally has counted =
-        absurd (done_due g s t r not_done (over_back s now st.represents over) b)
+        absurd (done_due g s t r not_done (over_shown st.represents over) b)
     report_at units (x ∷ (y ∷ ys)) now state st lines count tally has counted = elim state [ ]
     report_at units [] now (between lu goes) st lines count tally has counted =
         let e = st.represents.graph_is in
         let made = report_made s t now r not_done (subst (λ a. StandsIn a s now) (sym e) st)
-        (subst (λ a. IsSound a t) (sym e) sound) (subst (λ a. IsReported a s r t) (sym e) b) none_told in
+        (subst (λ a. IsSound a t) (sym e) is.sound) (subst (λ a. IsReported a s r t) (sym e) b) is.none_told in
         let stands = subst (λ a. StandsIn a t made.world) e made.stands in
-        let before = part_is (flat_map (λ u. u) units) (lines ∙ ap lines_of_reports (append-nil (flat_map (λ u. u) units)))
+        let before = part_is (flat_map (λ u. u) units)
+        (lines ∙ ap lines_of_reports (append-nil (flat_map (λ u. u) units)))
         in
         let said = lines_now (flat_map (λ u. u) units) made.said before (made.lines ∙ ap (λ l. l ∷ told_lines t.told)
         (sym text)) in
@@ -164,7 +201,7 @@ module _ (begun : World) (g : GraphState) (s t : Shown) (reports more : ℕ) (pa
             units = units;
             tail = made.said ∷ [];
             now = made.world;
-            state = ending now lu made.running made.not_done made.lawful (over_to t made.world stands.represents over);
+            state = ending now lu made.running made.not_done made.lawful (over_world stands.represents over);
             stands = stands;
             lines = said;
             count = one_more ∙ plus_one reports (length units) count;
@@ -177,8 +214,8 @@ module _ (begun : World) (g : GraphState) (s t : Shown) (reports more : ℕ) (pa
             tail = [];
             now = made.world;
             state = between (units_more begun units now (made.said ∷ []) made.world lu
-                (says made.running made.not_done made.lawful (λ o. not (over_back t made.world stands.represents o))))
-                (λ o. not (over_back t made.world stands.represents o));
+                (says made.running made.not_done made.lawful (λ o. not (over_shown stands.represents o))))
+                (λ o. not (over_shown stands.represents o));
             stands = stands;
             lines = said ∙ ap lines_of_reports (flat_now units made.said);
             count = one_more ∙ whole_one reports units made.said count;
@@ -200,13 +237,13 @@ module _ (begun : World) (g : GraphState) (s t : Shown) (reports more : ℕ) (pa
         flat_now us x = sym (flat_more (λ (u : List Report). u) us (x ∷ []))
             ∙ sym (append-nil (flat_map (λ (u : List Report). u) (us ++ (x ∷ []) ∷ [])))
 
-    pub report_next : HasUnitsSoFar begun g s reports part → Next
+    pub report_next : HasUnitsBefore begun n reports → Next
     report_next h = report_at h.units h.tail h.now h.state h.stands h.lines h.count h.tally h.has_tally h.counted
 
   -- `done`
   module _ (text : line ≡ report_text report.Done) (b : judged.Finishes s t) where
     as_many : more ≡ reports
-    as_many = elim counts [ inl c ↦ c.1 | inr c ↦ absurd (c.0 (inl text)) ]
+    as_many = elim is.counts [ inl c ↦ c.1 | inr c ↦ absurd (c.0 (inl text)) ]
 
     done_at : (units : List (List Report)) (tail : List Report) (now : World) → IsInUnit begun units tail now
         → StandsIn g s now → part ++ told_lines s.told ≡ lines_of_reports (flat_map (λ u. u) units ++ tail)
@@ -214,42 +251,33 @@ module _ (begun : World) (g : GraphState) (s t : Shown) (reports more : ℕ) (pa
         → HasCounted s now tally (flat_map (λ u. u) units ++ tail) → Next
     done_at units (x ∷ (y ∷ ys)) now state st lines count tally has counted = elim state [ ]
     done_at units [] now (between lu goes) st lines count tally has counted =
-        absurd (goes (over_to s now st.represents b.over))
+        absurd (goes (over_world st.represents b.over))
     done_at units (r ∷ []) now (ending u lu run nd lawful over) st lines count tally has counted =
         let e = st.represents.graph_is in
         let at = subst (λ a. StandsIn a s now) (sym e) st in
-        let f = for_of s now at in
-        let v = finished_world s t now f b in
-        let done = finished_lawful s t now f b in
         let before = part_is (flat_map (λ u. u) units ++ r ∷ []) lines in
         let said = lines_now (flat_map (λ u. u) units ++ r ∷ []) report.Done before
-        (ap (λ l. l ∷ []) (sym text) ∙ ap (λ ns. line ∷ told_lines ns) (sym (ap (λ (z : Shown). z.told) b.new_is ∙ none_told)))
+        (ap (λ l. l ∷ []) (sym text)
+        ∙ ap (λ ns. line ∷ told_lines ns) (sym (ap (λ (z : Shown). z.told) b.new_is ∙ is.none_told)))
         in
         record {
           units = units ++ (r ∷ report.Done ∷ []) ∷ [];
           tail = [];
-          now = finished_world s t now f b;
-          state = between (units_more begun units u (r ∷ report.Done ∷ []) (finished_world s t now f b) lu
-              (last run nd lawful (finished_lawful s t now f b))) (λ o. cc o.running);
+          now = finished_world s t now at b;
+          state = between (units_more begun units u (r ∷ report.Done ∷ []) (finished_world s t now at b) lu
+              (last run nd lawful (finished_lawful s t now at b))) (λ o. cc o.running);
           stands = record {
-            represents = subst (λ a. Represents a t (finished_world s t now f b)) e (finished_represents s t now f b);
-            laws = record {
-              valid = report_valid now report.Done (finished_world s t now f b) st.laws.valid
-                  (finished_lawful s t now f b);
-              live = report_live now report.Done (finished_world s t now f b) st.laws.valid st.laws.live
-                  (finished_lawful s t now f b);
-              registers = st.laws.registers;
-              slots = st.laws.slots;
-            };
-            sound = sound;
+            represents = subst (λ a. Represents a t (finished_world s t now at b)) e (finished_represents s t now at b);
+            laws = laws_report now report.Done (finished_world s t now at b) st.laws (finished_lawful s t now at b);
+            sound = is.sound;
           };
           lines = said ∙ ap lines_of_reports (flat_now units r);
           count = as_many ∙ whole_one reports units r count;
           tally = tally;
           has_tally = has;
-          counted = subst (λ rs. HasCounted t (finished_world s t now f b) tally rs) (flat_now units r)
-              (still_counted s t now (finished_world s t now f b) tally (flat_map (λ u. u) units ++ r ∷ []) report.Done 0
-              refl (ap is_prepared b.over.ended) (ap (λ (z : Shown). is_prepared z.stage) b.new_is)
+          counted = subst (λ rs. HasCounted t (finished_world s t now at b) tally rs) (flat_now units r)
+              (still_counted s t now (finished_world s t now at b) tally (flat_map (λ u. u) units ++ r ∷ [])
+              report.Done 0 refl (ap is_prepared b.over.ended) (ap (λ (z : Shown). is_prepared z.stage) b.new_is)
               (ap (λ (z : Shown). z.tally) b.new_is ∙ with_none s.tally) counted);
         }
       where
@@ -264,25 +292,25 @@ module _ (begun : World) (g : GraphState) (s t : Shown) (reports more : ℕ) (pa
             ∙ sym (flat_more (λ (u : List Report). u) us (x ∷ report.Done ∷ []))
             ∙ sym (append-nil (flat_map (λ (u : List Report). u) (us ++ (x ∷ report.Done ∷ []) ∷ [])))
 
-    pub done_next : HasUnitsSoFar begun g s reports part → Next
+    pub done_next : HasUnitsBefore begun n reports → Next
     done_next h = done_at h.units h.tail h.now h.state h.stands h.lines h.count h.tally h.has_tally h.counted
 
 -- a line of an answer with units that is not the last one
-pub line_next : (begun : World) (g : GraphState) (s t : Shown) (reports more : ℕ) (part : List (List ℕ))
-    (line : List ℕ) → IsSound g t → IsReportedLine g s line t → Counts reports line more
-    → HasUnitsSoFar begun g s reports part → HasUnitsSoFar begun g t more (part ++ line ∷ [])
-line_next begun g s t reports more part line sound (inr told) counts h =
-    told_next begun g s t reports part line more h sound told counts
-line_next begun g s t reports more part line sound (inl (r, text, b, none)) counts h = go r text b
+pub line_next : (begun : World) (n : Reading) (reports more : ℕ) → IsSound n.graph n.new
+    → IsReportedLine n.graph n.old n.line n.new → Counts reports n.line more → HasUnitsBefore begun n reports
+    → HasUnitsThen begun n more
+line_next begun n reports more sound (inr told) counts h = told_next begun n reports more h sound told counts
+line_next begun n reports more sound (inl (r, text, b, none)) counts h = go r text b
   where
-    go : (r : Report) → line ≡ report_text r → IsReported g s r t → HasUnitsSoFar begun g t more (part ++ line ∷ [])
-    go report.Started text b = report_next begun g s t reports more part line sound none counts report.Started
-        (λ e. cc e) text b h
-    go (report.Groups groups) text b = report_next begun g s t reports more part line sound none counts
-        (report.Groups groups) (λ e. cc e) text b h
-    go (report.Ended zones grays told) text b = report_next begun g s t reports more part line sound none counts
-        (report.Ended zones grays told) (λ e. cc e) text b h
-    go (report.Swept arena freed) text b = report_next begun g s t reports more part line sound none counts
-        (report.Swept arena freed) (λ e. cc e) text b h
-    go report.Done text b = done_next begun g s t reports more part line sound none counts text b h
+    is : IsNext n reports more
+    is = record { sound = sound; none_told = none; counts = counts }
+
+    go : (r : Report) → n.line ≡ report_text r → IsReported n.graph n.old r n.new → HasUnitsThen begun n more
+    go report.Started text b = report_next begun n reports more is report.Started (λ e. cc e) text b h
+    go (report.Groups groups) text b = report_next begun n reports more is (report.Groups groups) (λ e. cc e) text b h
+    go (report.Ended zones grays told) text b =
+        report_next begun n reports more is (report.Ended zones grays told) (λ e. cc e) text b h
+    go (report.Swept arena freed) text b =
+        report_next begun n reports more is (report.Swept arena freed) (λ e. cc e) text b h
+    go report.Done text b = done_next begun n reports more is text b h
     go (report.Stopped zones) text b = absurd b

@@ -1,6 +1,7 @@
 -- As a group ends, the judge stands for a world in which it has ended lawfully.
-use Rattle.std.proofs.Common.{◌≡◌, ◌↔◌, ◌∙◌, ◌++◌, inl, inr, ℕ, Bool, true, false, cond, List, [], ◌∷◌, Option, Some, None}
-use Rattle.std.proofs.Common.{◌≤◌, length, Contains, IsTrue, ap, is_some, map, refl, subst, sym, eqb, eqb-true, eq-eqb}
+use Rattle.std.proofs.Common.{◌≡◌, ◌↔◌, ◌∙◌, ◌++◌, inl, inr, ℕ, Bool, true, false, cond, List, [], ◌∷◌, Option, Some}
+use Rattle.std.proofs.Common.{None}
+use Rattle.std.proofs.Common.{Contains, ap, is_some, map, refl, subst, sym, eqb}
 use Rattle.std.proofs.lemmas.List.Elements.{Contains-append_cases, Contains-append_left, Contains-append_right}
 use Rattle.std.specs.BTreeMap as tree
 use Rattle.std.specs.FinMap as finite
@@ -22,18 +23,19 @@ use Rattle.colour_defs.proofs.Membership.{among_to, gray_of, some_member, white_
 use Rattle.colour_defs.proofs.Names.{names_apart}
 use Rattle.plain_graph.specs.Indexed.{order_of}
 use Rattle.judge.specs.Cells.{HasCell, IsGray, IsWhite}
-use Rattle.judge.specs.Represents.{AreWaiting, HasFound, IsAtStage, IsCollected, Represents}
+use Rattle.judge.specs.Represents.{HasFound, IsAtStage, IsCollected, Represents}
 use Rattle.judge.specs.Sound.{AreFollowed}
-use Rattle.judge.specs.Stages as judged
 use Rattle.judge.specs.Stages.{EndsGroup, HasGroups, Shown, Stage, collecting}
-use Rattle.judge.specs.Walks.{IsFoundBlack, IsFoundLive}
-use Rattle.judge.specs.Weak as judged_weak
+use Rattle.judge.specs.Walks.{IsFoundBlack}
 use Rattle.judge.specs.Weak.{IsWatched}
-use Rattle.judge.specs.Whites.{is_at, lies_in, whites_in}
 use Rattle.judge.proofs.FirstTally.{present_among}
 use Rattle.judge.proofs.Found.{black_is}
-use Rattle.judge.proofs.NameSets.{set_has, set_of, sorted_has, without_is, zones_none}
-use Rattle.judge.proofs.StandsFor.{IsFor, caught_black, caught_live, cell_of, present_of}
+use Rattle.judge.proofs.NameSets.{set_has, set_of, sorted_has}
+use Rattle.judge.specs.Positions.{StandsIn}
+use Rattle.judge.proofs.Ending.{represents_end}
+use Rattle.judge.proofs.Lawfulness.{laws_report}
+use Rattle.judge.proofs.StandsFor.{cell_of, present_of}
+use Rattle.gz_names.specs.declared.replies.Report.TheVariants as report
 use Rattle.judge.proofs.WorldSweeps.{lists_same}
 
 -- a cell with the place where it lay, if it lies nowhere now
@@ -83,11 +85,7 @@ gone_has then now (x ∷ xs) y p c a b = elim (contains_cases x xs y c) [
       (gone_has then now xs y p h a b)
 ]
 
-map_as : {X Y : Type 0} (g h : X → Y) → ((x : X) → g x ≡ h x) → (xs : List X) → map g xs ≡ map h xs
-map_as g h same [] = refl
-map_as g h same (x ∷ xs) = ap (λ y. y ∷ map g xs) (same x) ∙ ap (λ ys. h x ∷ ys) (map_as g h same xs)
-
-module _ (s t : Shown) (w : World) (f : IsFor s w) (group : ZoneSet) (grays : List Name)
+module _ (s t : Shown) (w : World) (f : StandsIn w.graph s w) (group : ZoneSet) (grays : List Name)
     (e : EndsGroup w.graph s group grays t) where
   pub ending : IsCollected s e.ends.zones e.ends.marking (Some (group ∷ e.ends.rest)) w
   ending = subst (λ (u : Stage). IsAtStage u s w) e.ends.was f.represents.stage_is
@@ -107,7 +105,7 @@ module _ (s t : Shown) (w : World) (f : IsFor s w) (group : ZoneSet) (grays : Li
   was = f.sound.walks e.walks e.found left
 
   groups_ok : AreValidGroups w k (zones_in group ∷ map zones_in e.ends.rest)
-  groups_ok = f.valid.groups k (zones_in group ∷ map zones_in e.ends.rest) ending.collection_is ending.groups_are
+  groups_ok = f.laws.valid.groups k (zones_in group ∷ map zones_in e.ends.rest) ending.collection_is ending.groups_are
 
   some_marking : k.marking ≡ [] → ⊥
   some_marking none =
@@ -116,7 +114,7 @@ module _ (s t : Shown) (w : World) (f : IsFor s w) (group : ZoneSet) (grays : Li
       nothing_in_none m.0 (subst (λ l. Contains l m.0) none (groups_ok.marked (zones_in group) m.0 first m.1))
 
   marks : IsValidMarking w k
-  marks = f.valid.marking k ending.collection_is some_marking
+  marks = f.laws.valid.marking k ending.collection_is some_marking
 
   -- white by both
   white_to : (x : Name) → HasCell s.cells x → IsWhite w.graph (zones_in group) s.former.graph e.walks x
@@ -159,7 +157,8 @@ module _ (s t : Shown) (w : World) (f : IsFor s w) (group : ZoneSet) (grays : Li
   white_are : (x : Name) (p : ℕ × ℕ) → Contains white (x, p)
       ↔ (IsWhiteOf w k (zones_in group) x × (finite.get w.places x ≡ Some p))
   white_are x p = (
-    λ c. let g = gone_was (λ y. finite.get w.places y) (λ y. tree.get order_of t.cells y) (finite.keys w.places) x p c in
+    λ c. let g = gone_was (λ y. finite.get w.places y) (λ y. tree.get order_of t.cells y) (finite.keys w.places) x p c
+        in
         let here : HasCell s.cells x = ap is_some (sym (f.represents.places_are x) ∙ g.0) in
         (white_to x here (white_gone x here g.1), g.0),
     λ h. gone_has (λ y. finite.get w.places y) (λ y. tree.get order_of t.cells y) (finite.keys w.places) x p
@@ -172,10 +171,6 @@ module _ (s t : Shown) (w : World) (f : IsFor s w) (group : ZoneSet) (grays : Li
     marking = zones_without k.marking (zones_in group);
     groups = Some (map zones_in e.ends.rest);
   }
-
-  -- weak slots as the places are
-  abbrev if_here : Option Name → Option Name
-  if_here o = weak.if_present (record w { places = places }) o
 
   abbrev pub ended_world : World
   ended_world = record w {
@@ -237,8 +232,8 @@ module _ (s t : Shown) (w : World) (f : IsFor s w) (group : ZoneSet) (grays : Li
       ∙ ap (λ r. collecting e.ends.zones e.ends.after (Some r)) (none_left e.ends.rest refl none)) h)).1
 
   black_stays : (x : Name) → BlackClosure k x → IsPresent ended_world x
-  black_stays x b = stays x ((f.live.marking k ending.collection_is some_marking).live x (black_in_live w k marks x b))
-      (λ h. h.1 ((found.live_are x).0 (black_in_live w k marks x b)))
+  black_stays x b = let live = f.laws.live.marking k ending.collection_is some_marking in
+      stays x (live.live x (black_in_live w k marks x b)) (λ h. h.1 ((found.live_are x).0 (black_in_live w k marks x b)))
 
   black_are : zones_without k.marking (zones_in group) ≡ [] → (x : Name)
       → Has ended_world.black x ↔ (BlackClosure k x × IsPresent ended_world x)
@@ -292,7 +287,7 @@ module _ (s t : Shown) (w : World) (f : IsFor s w) (group : ZoneSet) (grays : Li
         λ h. (let now = (sorted_has t.weak.watched x).1 ((set_has t.weak.watched.keys x).0 h) in
             let then = (e.loses.watched_are x).0 now in
             let watched = (f.represents.watched_are x).1 then.0 in
-            let here = f.valid.presence.watched x watched in (
+            let here = f.laws.valid.presence.watched x watched in (
               watched,
               stays x here (λ white. then.1
                   ((e.loses.told_are.has x).1 ((cell_of s w f.represents x here, white), then.0))),
@@ -306,91 +301,12 @@ module _ (s t : Shown) (w : World) (f : IsFor s w) (group : ZoneSet) (grays : Li
       told_are = lists_same (λ x. (HasCell s.cells x × IsWhite w.graph (zones_in group) s.former.graph e.walks x)
           × IsWatched s.weak x) (λ x. Has w.weak.watched x × (IsPresent ended_world x → ⊥)) t.told
           (λ x h. ((f.represents.watched_are x).1 h.1, not_here x (present_of s w f.represents x h.0.0) h.0.1))
-          (λ x h. let here = f.valid.presence.watched x h.0 in
+          (λ x h. let here = f.laws.valid.presence.watched x h.0 in
           ((cell_of s w f.represents x here, gone_white x here h.1), (f.represents.watched_are x).0 h.0))
           e.loses.told_are;
     };
   }
 
-  -- the white cells of an arena
-  lies : (x : Name) (arena : ℕ) (o : Option Place) → tree.get order_of s.cells x ≡ o → is_at o arena ≡ true
-      → (slot : ℕ) × (finite.get w.places x ≡ Some (arena, slot))
-  lies x arena None at is = absurd (cc is)
-  lies x arena (Some p) at is =
-      let first : p.0 ≡ arena = eqb-true p.0 arena is in
-      let same : ◌≡◌ {A = ℕ × ℕ} p (arena, p.1) = λ i. (first i, p.1) in
-      (p.1, f.represents.places_are x ∙ at ∙ ap (λ (q : ℕ × ℕ). Some q) same)
-
-  of_lies : (x : Name) (arena slot : ℕ) → finite.get w.places x ≡ Some (arena, slot)
-      → IsTrue (lies_in s.cells arena x)
-  of_lies x arena slot at = ap (λ o. is_at o arena) (sym (f.represents.places_are x) ∙ at) ∙ eq-eqb arena arena refl
-
-  waiting : (arena : ℕ) → AreWaiting t ended_world arena
-  waiting arena = lists_same (λ x. HasCell s.cells x × IsWhite w.graph (zones_in group) s.former.graph e.walks x
-      × IsTrue (lies_in s.cells arena x)) (λ x. (slot : ℕ) × Contains ended_world.white (x, (arena, slot)))
-      (whites_in t.whites arena)
-      (λ x h. let at = lies x arena (tree.get order_of s.cells x) refl h.2 in
-      (at.0, (white_are x (arena, at.0)).1 (white_to x h.0 h.1, at.1)))
-      (λ x h. let g = (white_are x (arena, h.0)).0 h.1 in
-      (cell_of s w f.represents x g.0.present, white_from x g.0, of_lies x arena h.0 g.1)) (e.whites_are arena)
-
-  slots_now : map (weak.if_present (record w { places = places })) w.weak.slots ≡ t.weak.slots
-  slots_now = map_as (weak.if_present (record w { places = places })) (judged_weak.if_present t.cells) same w.weak.slots
-      ∙ ap (map (judged_weak.if_present t.cells)) f.represents.slots_are ∙ sym e.loses.slots_are
-    where
-      same : (o : Option Name) → weak.if_present (record w { places = places }) o ≡ judged_weak.if_present t.cells o
-      same None = refl
-      same (Some x) = ap (λ (b : Bool). cond b (Some x) None) (ap is_some (places_are x))
-
-  has_found : HasGroups t.stage → HasFound t collection_now e.goes_on.after
-  has_found some = let goes = e.goes_on.left some in record {
-    walks_are = goes.0;
-    former_is = found.former_is ∙ sym (ap (λ h. h.graph) goes.1);
-    black_are = λ x. let same = caught_black s.former.graph e.walks e.goes_on.after e.goes_on.caught was.black x in (
-      λ b. subst (λ h. IsFoundBlack h.graph e.goes_on.after x) (sym goes.1) (same.1 ((found.black_are x).0 b)),
-      λ b. (found.black_are x).1 (same.0 (subst (λ h. IsFoundBlack h.graph e.goes_on.after x) goes.1 b)),
-    );
-    live_are = λ x. let same = caught_live s.former.graph e.walks e.goes_on.after e.goes_on.caught was.live x in (
-      λ b. subst (λ h. IsFoundLive h.graph e.goes_on.after x) (sym goes.1) (same.1 ((found.live_are x).0 b)),
-      λ b. (found.live_are x).1 (same.0 (subst (λ h. IsFoundLive h.graph e.goes_on.after x) goes.1 b)),
-    );
-  }
-
-  marking_now : zones_without k.marking (zones_in group) ≡ zones_in e.ends.after
-  marking_now = ap (λ zs. zones_without zs (zones_in group)) ending.marking_are
-      ∙ without_is e.ends.marking group e.ends.after e.ends.after_are
-
-  settled_now : judged.IsSettled t.stage → zones_without k.marking (zones_in group) ≡ []
-  settled_now settled = marking_now ∙ zones_none e.ends.after (subst judged.IsSettled e.ends.new_is settled)
-
   pub ended_represents : Represents w.graph t ended_world
-  ended_represents = record {
-    graph_is = refl;
-    places_are = places_are;
-    owners_are = f.represents.owners_are ∙ sym e.owners_is;
-    out_are = ap (λ os. arenas_from 0 os (zones_in group)) f.represents.owners_are ∙ sym e.out_is;
-    white_are = λ arena c. waiting arena;
-    slots_are = slots_now;
-    watched_are = λ x. (
-      λ h. (sorted_has t.weak.watched x).1 ((set_has t.weak.watched.keys x).0 h),
-      λ h. (set_has t.weak.watched.keys x).1 ((sorted_has t.weak.watched x).0 h),
-    );
-    black_are = λ settled. record {
-      within = subst (λ b. b.next ≤ length b.names) (sym (over_now (settled_now settled)))
-          (e.goes_on.caught.black was.black.starts was.black.follows).follows.within;
-      names_are = λ x. set_has t.black.names x;
-    };
-    stage_is = subst (λ (u : Stage). IsAtStage u t ended_world) (sym e.ends.new_is) (record {
-      collection = collection_now;
-      collection_is = refl;
-      alone = ending.alone;
-      small = e.ends.small;
-      zones_are = ending.zones_are;
-      marking_are = marking_now;
-      groups_are = refl;
-      tally_is = ending.tally_is ∙ sym e.tally_is;
-      none_out = λ none. absurd (cc none);
-      found = λ some. (e.goes_on.after, has_found some);
-      first = λ none. absurd (cc none);
-    });
-  }
+  ended_represents = represents_end w.graph group grays grays t.told s t w ended_world (zones_in group) f
+      (laws_report w (report.Ended group grays t.told) ended_world f.laws ended_lawful) e ended_lawful

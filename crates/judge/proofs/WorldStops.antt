@@ -1,5 +1,6 @@
 -- As a collection is given up, the judge stands for a world in which this came lawfully.
-use Rattle.std.proofs.Common.{◌≡◌, ◌⊎◌, ◌↔◌, ◌∙◌, inl, inr, ℕ, List, [], ◌∷◌, Option, Some, None, Contains, ap, refl, subst, sym}
+use Rattle.std.proofs.Common.{◌≡◌, ◌⊎◌, ◌↔◌, ◌∙◌, inl, inr, ℕ, List, [], ◌∷◌, Option, Some, None, Contains, ap, refl}
+use Rattle.std.proofs.Common.{subst, sym}
 use Rattle.gz_names.specs.Zones.{zones_in}
 use Rattle.gz_names.specs.declared.names.Name.{Name}
 use Rattle.gz_names.specs.declared.zone_sets.ZoneSet.{ZoneSet}
@@ -9,37 +10,21 @@ use Rattle.colour_defs.specs.Lawful as lawful
 use Rattle.colour_defs.specs.Lawful.{IsOver, IsRunning, IsUnfinished}
 use Rattle.colour_defs.specs.World.{BlackClosure, Has, IsPresent, World, marking_of}
 use Rattle.colour_defs.proofs.Lists.{nothing_in_none}
-use Rattle.judge.specs.Represents.{IsAtStage, Represents, zones_of_groups}
-use Rattle.judge.specs.Stages as judged
+use Rattle.judge.specs.Represents.{IsAtStage, Represents}
 use Rattle.judge.specs.Stages.{HasGroups, IsBlackSoFar, Shown, Stage, Stops, collecting, idle, preparing, unfinished_in}
 use Rattle.judge.specs.Walks.{IsFoundBlack}
 use Rattle.judge.proofs.LiveCommands.{reached_in}
 use Rattle.judge.proofs.NameSets.{set_has, set_of}
-use Rattle.judge.proofs.StandsFor.{IsFor, cell_of, present_of, reached_through}
+use Rattle.judge.specs.Positions.{StandsIn}
+use Rattle.judge.proofs.Found.{reached_from}
+use Rattle.judge.proofs.Idling.{over_shown, running_world}
+use Rattle.judge.proofs.StandsFor.{cell_of, present_of}
+use Rattle.judge.proofs.Stopping.{represents_stop}
 
-module _ (s t : Shown) (w : World) (f : IsFor s w) (zones : ZoneSet) (st : Stops w.graph s zones t)
+module _ (s t : Shown) (w : World) (f : StandsIn w.graph s w) (zones : ZoneSet) (st : Stops w.graph s zones t)
     (some : s.stage ≡ idle → ⊥) where
   abbrev pub stopped_world : World
   stopped_world = record w { black = set_of t.black.names; preparing = None; collection = None }
-
-  -- a collection that is over by the definitions is over for the judge
-  no_groups : (groups : Option (List ZoneSet)) → zones_of_groups groups ≡ Some [] → groups ≡ Some []
-  no_groups None e = absurd (cc e)
-  no_groups (Some []) e = refl
-  no_groups (Some (g ∷ gs)) e = absurd (cc e)
-
-  over_at : (u : Stage) → s.stage ≡ u → IsAtStage u s w → IsOver w → judged.IsOver s
-  over_at idle e r o = absurd (cc (o.running, r.idle.none_running))
-  over_at (preparing z) e r o = absurd (cc (o.running, r.alone))
-  over_at (collecting z m groups) e c o =
-      let same : o.collection ≡ c.collection = cc (o.running, c.collection_is) in
-      record {
-        zones = z;
-        marking = m;
-        ended = e ∙ ap (λ gs. collecting z m gs) (no_groups groups
-            (sym c.groups_are ∙ ap (λ k. k.groups) (sym same) ∙ o.ended));
-        none_out = st.none_out;
-      }
 
   -- groups are left, if arenas are not
   groups_left : (z m : ZoneSet) (groups : Option (List ZoneSet)) → s.stage ≡ collecting z m groups → HasGroups s.stage
@@ -47,11 +32,6 @@ module _ (s t : Shown) (w : World) (f : IsFor s w) (zones : ZoneSet) (st : Stops
   groups_left z m (Some []) e =
       absurd (st.not_over (record { zones = z; marking = m; ended = e; none_out = st.none_out }))
   groups_left z m (Some (g ∷ gs)) e = subst HasGroups (sym e) tt
-
-  running : (u : Stage) → s.stage ≡ u → IsAtStage u s w → IsRunning w
-  running idle e r = absurd (some e)
-  running (preparing z) e r = inr (r.preparation, r.preparing_is)
-  running (collecting z m groups) e r = inl (r.collection, r.collection_is)
 
   unfinished : (u : Stage) → s.stage ≡ u → IsAtStage u s w → (z : ℕ)
       → Contains (zones_in (unfinished_in u)) z ↔ IsUnfinished w z
@@ -104,7 +84,7 @@ module _ (s t : Shown) (w : World) (f : IsFor s w) (zones : ZoneSet) (st : Stops
   so_far_present : (x : Name) → lawful.IsBlackSoFar w x → IsPresent w x
   so_far_present x h = elim h [
     | inl k ↦ k.3
-    | inr p ↦ ((f.valid.preparing p.0 p.1).left_out x p.2).0
+    | inr p ↦ ((f.laws.valid.preparing p.0 p.1).left_out x p.2).0
   ]
 
   starts_present : (x : Name) → lawful.IsBlackSoFar w x ⊎ (IsPresent w x × IsInZones w.graph (zones_in zones) x)
@@ -141,24 +121,24 @@ module _ (s t : Shown) (w : World) (f : IsFor s w) (zones : ZoneSet) (st : Stops
       ↔ (Closure w.graph (λ n. lawful.IsBlackSoFar w n ⊎ (IsPresent w n × IsInZones w.graph (zones_in zones) n)) x
       × IsPresent w x)
   black_now x = (
-    λ b. let r = reached_through w.graph (Contains st.blackens.starts) IsStart (λ n c. from (started n c))
+    λ b. let r = reached_from w.graph (Contains st.blackens.starts) IsStart (λ n c. from (started n c))
         ((st.blackens.done.all x).0 ((set_has t.black.names x).0 b)) in (
           r,
           reached_in w.graph IsStart (IsPresent w) starts_present (record {
-            edges = f.valid.presence.edges;
-            values = f.valid.presence.entries;
-            keys = f.valid.presence.keys;
+            edges = f.laws.valid.presence.edges;
+            values = f.laws.valid.presence.entries;
+            keys = f.laws.valid.presence.keys;
           }) r,
         ),
     λ h. (set_has t.black.names x).1 ((st.blackens.done.all x).1
-        (reached_through w.graph IsStart (Contains st.blackens.starts) (λ n k. from (is_started n k)) h.0)),
+        (reached_from w.graph IsStart (Contains st.blackens.starts) (λ n k. from (is_started n k)) h.0)),
   )
 
   pub stopped_lawful : lawful.Stops w (zones_in zones) stopped_world
   stopped_lawful = record {
-    running = running s.stage refl f.represents.stage_is;
+    running = running_world f.represents some;
     none_out = f.represents.out_are ∙ st.none_out;
-    not_over = λ o. st.not_over (over_at s.stage refl f.represents.stage_is o);
+    not_over = λ o. st.not_over (over_shown f.represents o);
     zones_are = λ z. subst (λ y. Contains (zones_in y) z ↔ IsUnfinished w z) (sym st.zones_are)
         (unfinished s.stage refl f.represents.stage_is z);
     world_is = refl;
@@ -166,17 +146,4 @@ module _ (s t : Shown) (w : World) (f : IsFor s w) (zones : ZoneSet) (st : Stops
   }
 
   pub stopped_represents : Represents w.graph t stopped_world
-  stopped_represents = subst (λ u. Represents w.graph u stopped_world) (sym st.new_is) (record {
-    graph_is = refl;
-    places_are = f.represents.places_are;
-    owners_are = f.represents.owners_are;
-    out_are = f.represents.out_are;
-    white_are = f.represents.white_are;
-    slots_are = f.represents.slots_are;
-    watched_are = f.represents.watched_are;
-    black_are = λ settled. record {
-      within = st.blackens.done.follows.within;
-      names_are = λ x. set_has t.black.names x;
-    };
-    stage_is = record { idle = record { none_running = refl; none_preparing = refl }; none_out = st.none_out };
-  })
+  stopped_represents = represents_stop w.graph zones s t w stopped_world (zones_in zones) f st stopped_lawful
