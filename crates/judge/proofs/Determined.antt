@@ -1,10 +1,11 @@
 -- A compaction leaves no choice: which cells move, and which arenas are given up, is determined.
 use Rattle.std.proofs.Common.{◌≡◌, ◌∙◌, ◌⊎◌, ◌↔◌, inl, inr, ℕ, List, [], ◌∷◌, ◌++◌, drop, length, Some, Contains, refl}
-use Rattle.std.proofs.Common.{sym, ap, subst, arith}
+use Rattle.std.proofs.Common.{sym, ap, subst, take, arith}
 use Rattle.std.specs.FinMap as map
-use Rattle.std.proofs.Math.Seq.{drop-append_seam}
+use Rattle.std.proofs.Math.Seq.{drop-append_seam, take-append_seam}
 use Rattle.gz_names.specs.declared.names.Name.{Name}
-use Rattle.colour_defs.specs.Compaction.{AreInOrder, Compacts, FillArenas, IsBefore, Places}
+use Rattle.colour_defs.specs.Compaction.{AreInOrder, AreMoved, Compacts, FillArenas, IsBefore, IsLowestFreeIn, Places}
+use Rattle.colour_defs.specs.Compaction.{given_up_from}
 use Rattle.colour_defs.specs.World.{World}
 use Rattle.colour_defs.proofs.Lists.{nothing_in_none, contains_head, contains_tail, contains_cases}
 
@@ -118,3 +119,43 @@ determined w zone u v m n k l c d =
       c.moved_is ∙ ap length (movers_are w zone both) ∙ sym d.moved_is,
       c.given_is ∙ ap length (given_is w zone both) ∙ sym d.given_is,
     )
+
+-- the cells go to the same places
+one_lowest : (arenas : List ℕ) (places : Places) (p q : ℕ × ℕ) → IsLowestFreeIn arenas places p
+    → IsLowestFreeIn arenas places q → p ≡ q
+one_lowest arenas places p q a b = go (a.lowest q b.free) (b.lowest p a.free)
+  where
+    go : (q ≡ p) ⊎ IsBefore p q → (p ≡ q) ⊎ IsBefore q p → p ≡ q
+    go (inl e) other = sym e
+    go (inr h) (inl e) = e
+    go (inr h) (inr i) = absurd (not_both p q h i)
+
+moved_once : (arenas : List ℕ) (xs : List Name) (old u v : Places) → AreMoved arenas xs old u → AreMoved arenas xs old v
+    → u ≡ v
+moved_once arenas [] old u v a b = a ∙ sym b
+moved_once arenas (x ∷ xs) old u v (p, low, a) (q, least, b) =
+    let same : p ≡ q = one_lowest arenas old p q low least in
+    moved_once arenas xs (map.insert old x p) u v a
+    (subst (λ r. AreMoved arenas xs (map.insert old x r) v) (sym same) b)
+
+module _ (w : World) (zone : ℕ) (both : AreBoth w zone) where
+  kept_are : both.one.kept ≡ both.other.kept
+  kept_are = sym (take-append_seam both.one.kept both.one.given_up)
+      ∙ (λ i. take (kept_count w zone both i) (arenas_are w zone both i))
+      ∙ take-append_seam both.other.kept both.other.given_up
+
+  places_are : both.u.places ≡ both.v.places
+  places_are = moved_once both.other.kept both.other.movers w.places both.u.places both.v.places
+      (subst (λ k. AreMoved k both.other.movers w.places both.u.places) kept_are
+      (subst (λ m. AreMoved both.one.kept m w.places both.u.places) (movers_are w zone both) both.one.are_moved))
+      both.other.are_moved
+
+  worlds_are : both.u ≡ both.v
+  worlds_are = both.one.world_is
+      ∙ (λ i. record w { places = places_are i; owner = given_up_from 0 w.owner (given_is w zone both i) })
+      ∙ sym both.other.world_is
+
+pub determined_world : (w : World) (zone : ℕ) (u v : World) (m n k l : ℕ) → Compacts w zone m n u
+    → Compacts w zone k l v → u ≡ v
+determined_world w zone u v m n k l c d =
+    worlds_are w zone (record { u = u; v = v; m = m; n = n; k = k; l = l; one = c; other = d })

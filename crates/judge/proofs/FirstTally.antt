@@ -121,7 +121,7 @@ map_ascends : (es : List (Name × (ℕ × ℕ))) → T (is_sorted name_cmp es) �
 map_ascends [] t = tt
 map_ascends (e ∷ es) t = let both = both_are _ _ t in (map_before e.0 es both.0, map_ascends es both.1)
 
-present_among : (w : World) (x : Name) → IsPresent w x ↔ Contains (map.keys w.places) x
+pub present_among : (w : World) (x : Name) → IsPresent w x ↔ Contains (map.keys w.places) x
 present_among w x = (
   λ h. Contains-from_any eq_name-is x (map.keys w.places) (sym (map.contains_key-keys w.places x) ∙ h),
   λ c. map.contains_key-keys w.places x

@@ -22,7 +22,7 @@ use Rattle.judge.specs.declared.collection.GroupEnd.{GroupEnd}
 use Rattle.judge.specs.declared.whites.Whites.{Whites}
 
 -- what is reached from names that are reached
-reached_from : (g : GraphState) (P Q : Name → Type 0) → ((x : Name) → P x → Closure g Q x) → {x : Name} → Closure g P x
+pub reached_from : (g : GraphState) (P Q : Name → Type 0) → ((x : Name) → P x → Closure g Q x) → {x : Name} → Closure g P x
     → Closure g Q x
 reached_from g P Q h (from s) = h _ s
 reached_from g P Q h (along r e) = along (reached_from g P Q h r) e
@@ -30,7 +30,7 @@ reached_from g P Q h (weak at m k) = weak at (reached_from g P Q h m) (reached_f
 reached_from g P Q h (delegate at m t) = delegate at (reached_from g P Q h m) (reached_from g P Q h t)
 
 -- a walk that went on has found what is reached from what it had found and from the names that were added
-found_is : (g : GraphState) (more : List Name) (old new : WalkState) (starts : List Name) → Follows g starts old
+pub found_is : (g : GraphState) (more : List Name) (old new : WalkState) (starts : List Name) → Follows g starts old
     → IsDone g (starts ++ more) new → (x : Name)
     → Contains new.names x ↔ Closure g (λ s. Contains old.names s ⊎ Contains more s) x
 found_is g more old new starts f done x = (
@@ -50,7 +50,7 @@ pub black_is : (g : GraphState) (before after : Walks) → CatchesUp g before af
 black_is g before after caught b x =
     found_is g before.woken before.black after.black b.starts b.follows (caught.black b.starts b.follows) x
 
-live_is : (g : GraphState) (before after : Walks) → CatchesUp g before after → IsWalked g before.live → (x : Name)
+pub live_is : (g : GraphState) (before after : Walks) → CatchesUp g before after → IsWalked g before.live → (x : Name)
     → Contains after.live.names x ↔ IsFoundLive g before x
 live_is g before after caught l x =
     found_is g before.woken before.live after.live l.starts l.follows (caught.live l.starts l.follows) x
@@ -89,7 +89,8 @@ pub colours_of : (g : GraphState) (old new : Cells) (former : GraphState) (befor
 colours_of g old new former before after end known has goes = record {
   grays_are = grays_of g old former before after end known has;
   gone = λ x here white. goes.gone x ((has.whites.has x).1 (here, (white.0, λ c. white.1 ((live x).0 c))));
-  stay = λ x n. goes.stay x (λ c. let h = (has.whites.has x).0 c in n (h.1.0, λ f. h.1.1 ((live x).1 f)));
+  stay = λ x n. goes.stay x (λ c. let h = (has.whites.has x).0 c in
+      n (h.0, (h.1.0, λ f. h.1.1 ((live x).1 f))));
 }
   where
     live : (x : Name) → Contains after.live.names x ↔ IsFoundLive former before x

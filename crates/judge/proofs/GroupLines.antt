@@ -41,7 +41,7 @@ numbers_lack (n ∷ ns) below =
     )
     (numbers_lack ns (λ m c. below m (contains_tail n ns m c)))
 
-zones_lack : (g : ZoneSet) → Lacks 124 (number_words (zones_in g))
+pub zones_lack : (g : ZoneSet) → Lacks 124 (number_words (zones_in g))
 zones_lack g = numbers_lack (zones_in g) (λ z c. HasZone-below g.bits z ((zones_in-has g z).0 c))
 
 -- a bar stands before each group but the first
@@ -62,7 +62,7 @@ rest_text : (g : ZoneSet) (gs : List ZoneSet) → groups_text 1 (g ∷ gs) ≡ 3
 rest_text g gs = ap (λ t. 32 ∷ 124 ∷ (number_words (zones_in g) ++ t)) (later_text 1 gs)
 
 -- the text of a group and of those behind it
-first_text : (g h : ZoneSet) (gs : List ZoneSet) → groups_text 0 (g ∷ h ∷ gs)
+pub first_text : (g h : ZoneSet) (gs : List ZoneSet) → groups_text 0 (g ∷ h ∷ gs)
     ≡ (number_words (zones_in g) ++ 32 ∷ []) ++ 124 ∷ groups_text 0 (h ∷ gs)
 first_text g h gs =
     ap (λ t. number_words (zones_in g) ++ t) (rest_text h gs)
@@ -102,7 +102,7 @@ pub gc_spelt : (line words : List ℕ) (zones : ZoneSet) → line ≡ codes "gc"
     → Spells line (Gc zones)
 gc_spelt line words zones e spells = (word.Gc, words, e, (zones, refl, spells))
 
-some_words : (g : ZoneSet) → 0 < g.bits → g.bits < 2 ^ 64 → number_words (zones_in g) ≢ []
+pub some_words : (g : ZoneSet) → 0 < g.bits → g.bits < 2 ^ 64 → number_words (zones_in g) ≢ []
 some_words g some small e =
     let first = HasZone-first g.bits some small in
     let z : ℕ = trailing_zeros w64 g.bits in

@@ -19,7 +19,7 @@ use Rattle.colour_defs.proofs.Membership.{among_from, among_to}
 use Rattle.colour_defs.proofs.ZoneSets.{zones_in-has}
 use Rattle.plain_graph.specs.Indexed.{order_of}
 use Rattle.judge.specs.Slots.{owner_of, owners_of}
-use Rattle.judge.specs.Cells.{Cells}
+use Rattle.judge.specs.Cells.{Cells, HasCell}
 use Rattle.judge.specs.Stages.{LiesIn, Shown}
 use Rattle.judge.specs.declared.arenas.Arena.{Arena}
 
@@ -121,6 +121,7 @@ lies_after g old mid new owners cells out (inl l) = inl (record {
   zone = l.zone;
   place = l.place;
   of = l.of;
+  fresh = λ h. l.fresh (subst (λ (cs : Cells). HasCell cs l.name) (sym cells) h);
   updates = subst (λ (cs : Cells). tree.Updates order_of cs new.cells l.name (Some l.place)) cells l.updates;
   lies = λ w laid. l.lies w (record {
     owners_are = laid.owners_are ∙ sym owners;
@@ -137,6 +138,7 @@ lies_before g old mid new owners cells (inl l) = inl (record {
   zone = l.zone;
   place = l.place;
   of = l.of;
+  fresh = l.fresh;
   updates = subst (λ (cs : Cells). tree.Updates order_of old.cells cs l.name (Some l.place)) (sym cells) l.updates;
   lies = λ w laid. subst (λ (os : List (Option ℕ)). IsPlaceFor w l.zone l.place os) (sym owners) (l.lies w laid);
 })

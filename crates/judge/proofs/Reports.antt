@@ -13,9 +13,9 @@ use Rattle.colour_defs.specs.Ends.{Lists}
 use Rattle.trace_lang.specs.Texts.{report_text, told_text}
 use Rattle.judge.specs.Cells.{HasCell, IsGray}
 use Rattle.judge.specs.Replies.{IsLast, LooksLast}
-use Rattle.judge.specs.Stages.{AreForbidden, IsDue, IsEndedLine, IsFirstGroup, IsOver, IsResetLine, IsToldLine}
+use Rattle.judge.specs.Stages.{AreForbidden, IsDue, IsFirstGroup, IsOver, IsToldLine, IsWrongResetLine, MayEnd}
 use Rattle.judge.specs.Stages.{IsWrongReport}
-use Rattle.judge.specs.Stages.{IsWrongReportLine, Shown, Stage, collecting, idle, preparing}
+use Rattle.judge.specs.Stages.{IsWrongReportLine, Shown, Stage, collecting, idle, preparing, unfinished_in}
 use Rattle.judge.specs.Walks.{Walks}
 use Rattle.judge.specs.Whites.{whites_in}
 use Rattle.judge.specs.declared.collection.GroupEnd.{GroupEnd}
@@ -59,7 +59,9 @@ Refuses due.Idle g s line = ⊤
 Refuses due.Started g s line = line ≢ codes "started"
 Refuses due.Groups g s line =
     (groups : List ZoneSet) → line ≡ report_text (report.Groups groups) → AreForbidden g s groups
-Refuses due.Ended g s line = (new : Shown) → IsEndedLine g s line new → ⊥
+Refuses due.Ended g s line =
+    (group : ZoneSet) (grays : List Name) → line ≡ report_text (report.Ended group grays []) → MayEnd g s group grays
+    → ⊥
 Refuses (due.Swept a) g s line = line ≢ report_text (report.Swept a (whites_in s.whites a))
 Refuses due.Done g s line = line ≢ codes "done"
 
@@ -69,18 +71,16 @@ module _ (d : DueReport) (g : GraphState) (s : Shown) (line : List ℕ) (at : du
   refused_as e is = subst (λ (x : DueReport). Refuses x g s line) (sym at ∙ is) refuses
 
   wrong_report : (r : Report) → line ≡ report_text r → IsWrongReport g s r
-  wrong_report report.Started e = λ new starts.
-      refused_as due.Started (at_rest s (preparing starts.zones) starts.none_out starts.was) e
+  wrong_report report.Started e = λ may. refused_as due.Started (at_rest s (preparing may.0) may.2 may.1) e
   wrong_report (report.Groups groups) e = λ none zones marking walks stage.
       refused_as due.Groups (at_rest s (collecting zones marking None) none stage) groups e zones marking walks stage
-  wrong_report (report.Ended group grays told) e = λ none new ends.
-      refused_as due.Ended (at_rest s (collecting ends.ends.zones ends.ends.marking (Some (group ∷ ends.ends.rest)))
-      ends.none_out ends.ends.was) new
-      (group, grays, e ∙ ap (λ t. report_text (report.Ended group grays t)) none, ends)
-  wrong_report (report.Swept a freed) e = λ new sweeps.
-      refused_as (due.Swept a) (sweep_due s a sweeps.rest sweeps.first)
-      (e ∙ ap (λ xs. report_text (report.Swept a xs)) sweeps.freed_are)
-  wrong_report report.Done e = λ new ends. refused_as due.Done (over_due s ends.over) e
+  wrong_report (report.Ended group grays told) e = λ none may.
+      let (zones, marking, rest, at) = may.first in
+      refused_as due.Ended (at_rest s (collecting zones marking (Some (group ∷ rest))) may.none_out at) group grays
+      (e ∙ ap (λ t. report_text (report.Ended group grays t)) none) may
+  wrong_report (report.Swept a freed) e = λ may.
+      refused_as (due.Swept a) (sweep_due s a may.0 may.1) (e ∙ ap (λ xs. report_text (report.Swept a xs)) may.2)
+  wrong_report report.Done e = λ over. refused_as due.Done (over_due s over) e
   wrong_report (report.Stopped zones) e = tt
 
 none_told : (s : Shown) (line : List ℕ) (new : Shown) → s.told ≡ [] → IsToldLine s line new → ⊥
@@ -108,41 +108,51 @@ pub record KnowsEnd (g : GraphState) (s : Shown) (end : GroupEnd) : Type 0 where
 
 -- a line that is not the report of that end
 pub not_ended : (g : GraphState) (s : Shown) (line : List ℕ) (end : GroupEnd) → KnowsEnd g s end
-    → line ≢ report_text (report.Ended end.zones end.grays.items []) → (new : Shown) → IsEndedLine g s line new → ⊥
-not_ended g s line end knows differs new (group, grays, e, ends) =
+    → line ≢ report_text (report.Ended end.zones end.grays.items []) → (group : ZoneSet) (grays : List Name)
+    → line ≡ report_text (report.Ended group grays []) → MayEnd g s group grays → ⊥
+not_ended g s line end knows differs group grays e may =
     let (zones, marking, rest, at) = knows.first in
-    let same : group ≡ end.zones = cc (at, ends.ends.was) in
-    let walks : ends.walks ≡ knows.walks = cc (knows.found, ends.found) in
+    let (all_zones, all_marking, others, is) = may.first in
+    let same : group ≡ end.zones = cc (at, is) in
+    let walks : may.walks ≡ knows.walks = cc (knows.found, may.found) in
     let all = subst (λ (v : Walks). Lists (λ x. HasCell s.cells x × IsGray g (zones_in end.zones) s.former.graph v x)
     grays) walks (subst (λ (z : ZoneSet). Lists (λ x. HasCell s.cells x
-    × IsGray g (zones_in z) s.former.graph ends.walks x) grays) same ends.colours.grays_are) in
+    × IsGray g (zones_in z) s.former.graph may.walks x) grays) same may.grays_are) in
     let names : grays ≡ end.grays.items = one_list (λ x. HasCell s.cells x
     × IsGray g (zones_in end.zones) s.former.graph knows.walks x) grays end.grays.items all knows.grays in
     differs (e ∙ ap (λ (z : ZoneSet). report_text (report.Ended z grays [])) same
     ∙ ap (λ (xs : List Name). report_text (report.Ended end.zones xs [])) names)
 
 -- a line of a reset that is not the one that is due: an arena is out, the collection is over, or it is given up
-pub not_swept : (a : ℕ) (g : GraphState) (s : Shown) (line : List ℕ) → IsDue (due.Swept a) s
-    → line ≢ report_text (report.Swept a (whites_in s.whites a)) → (new : Shown) → IsResetLine g s line new → ⊥
-not_swept a g s line (rest, first) differs new (report.Started, e, never) = never
-not_swept a g s line (rest, first) differs new (report.Groups groups, e, never) = never
-not_swept a g s line (rest, first) differs new (report.Ended group grays told, e, never) = never
-not_swept a g s line (rest, first) differs new (report.Swept b freed, e, sweeps) =
-    let same : b ≡ a = cc (first, sweeps.first) in
-    differs (e ∙ ap (λ xs. report_text (report.Swept b xs)) sweeps.freed_are
+pub not_swept : (a : ℕ) (s : Shown) (line : List ℕ) → IsDue (due.Swept a) s
+    → line ≢ report_text (report.Swept a (whites_in s.whites a)) → IsWrongResetLine s line
+not_swept a s line (rest, first) differs report.Started e = tt
+not_swept a s line (rest, first) differs (report.Groups groups) e = tt
+not_swept a s line (rest, first) differs (report.Ended group grays told) e = tt
+not_swept a s line (rest, first) differs (report.Swept b freed) e = λ may.
+    let same : b ≡ a = cc (first, may.1) in
+    differs (e ∙ ap (λ xs. report_text (report.Swept b xs)) may.2
     ∙ ap (λ n. report_text (report.Swept n (whites_in s.whites n))) same)
-not_swept a g s line (rest, first) differs new (report.Done, e, ends) =
-    let over = ends.over in cc (first, over.none_out)
-not_swept a g s line (rest, first) differs new (report.Stopped zones, e, stops) = cc (first, stops.none_out)
+not_swept a s line (rest, first) differs report.Done e = λ over. cc (first, over.none_out)
+not_swept a s line (rest, first) differs (report.Stopped zones) e = λ may. cc (first, may.0)
 
-pub not_done : (g : GraphState) (s : Shown) (line : List ℕ) → IsOver s → line ≢ codes "done" → (new : Shown)
-    → IsResetLine g s line new → ⊥
-not_done g s line over differs new (report.Started, e, never) = never
-not_done g s line over differs new (report.Groups groups, e, never) = never
-not_done g s line over differs new (report.Ended group grays told, e, never) = never
-not_done g s line over differs new (report.Swept b freed, e, sweeps) = cc (over.none_out, sweeps.first)
-not_done g s line over differs new (report.Done, e, ends) = differs e
-not_done g s line over differs new (report.Stopped zones, e, stops) = stops.not_over over
+pub not_done : (s : Shown) (line : List ℕ) → IsOver s → line ≢ codes "done" → IsWrongResetLine s line
+not_done s line over differs report.Started e = tt
+not_done s line over differs (report.Groups groups) e = tt
+not_done s line over differs (report.Ended group grays told) e = tt
+not_done s line over differs (report.Swept b freed) e = λ may. cc (over.none_out, may.1)
+not_done s line over differs report.Done e = λ is. differs e
+not_done s line over differs (report.Stopped zones) e = λ may. may.1 over
+
+pub not_stopped : (s : Shown) (line : List ℕ) → s.out ≡ [] → (IsOver s → ⊥)
+    → line ≢ report_text (report.Stopped (unfinished_in s.stage)) → IsWrongResetLine s line
+not_stopped s line none not_over differs report.Started e = tt
+not_stopped s line none not_over differs (report.Groups groups) e = tt
+not_stopped s line none not_over differs (report.Ended group grays told) e = tt
+not_stopped s line none not_over differs (report.Swept b freed) e = λ may. cc (none, may.1)
+not_stopped s line none not_over differs report.Done e = not_over
+not_stopped s line none not_over differs (report.Stopped zones) e = λ may.
+    differs (e ∙ ap (λ z. report_text (report.Stopped z)) may.2)
 
 -- a line that begins as a last one does is no report
 same_at : (i : ℕ) (line xs ys : List ℕ) → line ≡ xs → line ≡ ys → get_or xs i 0 ≡ get_or ys i 0

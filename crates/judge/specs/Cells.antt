@@ -136,4 +136,5 @@ pub record Colours (g : GraphState) (zones : List ℕ) (former : GraphState) (w 
     (new : Cells) : Type 0 where
   pub grays_are : Lists (λ x. HasCell old x × IsGray g zones former w x) grays
   pub gone : (x : Name) → HasCell old x → IsWhite g zones former w x → tree.get order_of new x ≡ None
-  pub stay : (x : Name) → (IsWhite g zones former w x → ⊥) → tree.get order_of new x ≡ tree.get order_of old x
+  pub stay : (x : Name) → (HasCell old x × IsWhite g zones former w x → ⊥)
+      → tree.get order_of new x ≡ tree.get order_of old x

@@ -1,3 +1,4 @@
+pub mod Live
 pub mod Running
 pub mod Lines
 pub mod Former
@@ -20,3 +21,7 @@ pub mod Dumps
 pub mod Compaction
 pub mod Replies
 pub mod Verdicts
+pub mod Represents
+pub mod Transcripts
+pub mod Endings
+pub mod Positions

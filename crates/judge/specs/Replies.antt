@@ -28,7 +28,7 @@ use Rattle.judge.specs.Dumps.{ListsDump}
 use Rattle.judge.specs.Lines.{IsOneLine}
 use Rattle.judge.specs.Stages.{Stage, idle, preparing, collecting, Shown, IsFirst, IsOver, IsSettled, IsReportedLine}
 use Rattle.judge.specs.Running.{HasUnits}
-use Rattle.judge.specs.Stages.{IsWrongReportLine}
+use Rattle.judge.specs.Stages.{IsWrongReportLine, IsWrongResetLine}
 use Rattle.judge.specs.Stages.{IsResetLine, Obeys, Spends, TakesNamed}
 use Rattle.judge.specs.Starts.{LeavesOut}
 use Rattle.judge.specs.Weak.{Unwatches, Watches, is_watched, weak_slot, with_weak_slot}
@@ -239,7 +239,7 @@ IsWrongAnswer g s (dump lines) line = (next : Due) → IsDumped lines line next 
 IsWrongAnswer g s (units most collects reports) line =
     ((new : Shown) → IsLast most collects reports s line new → ⊥)
     × ((more : ℕ) → Counts reports line more → HasUnits most more → IsWrongReportLine g s line)
-IsWrongAnswer g s resets line = (new : Shown) → IsResetLine g s line new → ⊥
+IsWrongAnswer g s resets line = IsWrongResetLine s line
 
 -- what is due while this is awaited
 abbrev pub due_as : Awaited → Due
@@ -254,13 +254,17 @@ abbrev pub IsJudgedLine : {K : Type 0} → GraphState → Shown → Due → List
 IsJudgedLine g old due line new (Ok awaited) = IsAnswered g old due line new (due_as awaited)
 IsJudgedLine g old due line new (Err kind) = IsWrongAnswer g old due line
 
+-- a text stands for this command, and for no other
+abbrev pub IsRead : List ℕ → Cmd → Type 0
+IsRead text c = Spells text c × ((other : Cmd) → Spells text other → other ≡ c)
+
 -- n lines come first, the rest is left; the commands among them lead to this graph, each has behind it what is due for
 -- it; this is what the world shows then, and this is due
 pub data Judged (input : List ℕ) : ℕ → List ℕ → GraphState → Shown → Due → Type 0 where
   none : {s : Shown} → IsFirst s → Judged input 0 input empty_graph s nothing
   asked : {n : ℕ} {rest more line text : List ℕ} {g : GraphState} {c : Cmd} {old new : Shown} {due : Due}
       → Judged input n rest g old nothing → IsOneLine line → EndsLine rest more line → line ≡ marked text
-      → Spells text c → Asks g old c due new → Judged input (n + 1) more (graph_after g old c) new due
+      → IsRead text c → Asks g old c due new → Judged input (n + 1) more (graph_after g old c) new due
   answered : {n : ℕ} {rest more line : List ℕ} {g : GraphState} {due next : Due} {old new : Shown}
       → Judged input n rest g old due → IsOneLine line → EndsLine rest more line → IsUnmarked line
       → IsAnswered g old due line new next → Judged input (n + 1) more g new next
@@ -268,6 +272,6 @@ pub data Judged (input : List ℕ) : ℕ → List ℕ → GraphState → Shown �
 -- a line that is fine: the graph after it, what the world shows, and what is due then
 abbrev pub Steps : GraphState → Shown → Due → List ℕ → GraphState → Shown → Due → Type 0
 Steps g old due line h new next =
-    ((text : List ℕ) × (c : Cmd) × (due ≡ nothing) × (line ≡ marked text) × Spells text c × (h ≡ graph_after g old c)
+    ((text : List ℕ) × (c : Cmd) × (due ≡ nothing) × (line ≡ marked text) × IsRead text c × (h ≡ graph_after g old c)
     × Asks g old c next new)
     ⊎ (IsUnmarked line × (h ≡ g) × IsAnswered g old due line new next)

@@ -1,5 +1,5 @@
 -- How far a collection is, by its zones, its groups and the arenas that are out; and what a report makes of it.
-use Rattle.std.specs.Prelude.{◌≡◌, ◌↔◌, ℕ, ◌+◌, List, [], ◌∷◌, ◌++◌, Bool, true, false, reverse, Option}
+use Rattle.std.specs.Prelude.{◌≡◌, ◌↔◌, ℕ, ◌+◌, ◌<◌, ◌^◌, List, [], ◌∷◌, ◌++◌, Bool, true, false, reverse, Option}
 use Rattle.std.specs.Prelude.{Some, None, Vec, Contains, IsTrue, ◌⊎◌, ⊤, map, replicate}
 use Rattle.std.specs.BTreeMap as tree
 use Rattle.std.specs.BTreeSet.{BTreeSet}
@@ -22,7 +22,7 @@ use Rattle.colour_defs.specs.World as defs
 use Rattle.colour_defs.specs.World.{woken_by}
 use Rattle.trace_lang.specs.Texts.{report_text, told_text}
 use Rattle.judge.specs.Arenas.{owners_in}
-use Rattle.judge.specs.Cells.{Cells, Colours, GivesPlaces, HasCell, IsWhite, wakes, wakes_also, woken_in}
+use Rattle.judge.specs.Cells.{Cells, Colours, GivesPlaces, HasCell, IsGray, IsWhite, wakes, wakes_also, woken_in}
 use Rattle.judge.specs.LeftOut.{GrowsLeft, IsEither}
 use Rattle.judge.specs.Former.{IsFormer, Keeps, Releases, Takes}
 use Rattle.judge.specs.Bounds.{IsFirstTally, is_accepted, marking_tally, put_if, tally_of, with_sweep, with_units}
@@ -171,6 +171,7 @@ pub record GetsPlace (g : GraphState) (old new : Shown) : Type 0 where
   pub zone : ℕ
   pub place : Place
   pub of : zone_of g name ≡ Some zone
+  pub fresh : HasCell old.cells name → ⊥
   pub updates : tree.Updates order_of old.cells new.cells name (Some place)
   pub lies : (w : defs.World) → IsLaidAs old w → defs.IsPlaceFor w zone place new.owners
 
@@ -293,7 +294,14 @@ pub record Ends (old : Stage) (group : ZoneSet) (new : Stage) : Type 0 where
   pub rest : List ZoneSet
   pub was : old ≡ collecting zones marking (Some (group ∷ rest))
   pub after_are : AreWithout marking group after
+  pub small : after.bits < 2 ^ 64
   pub new_is : new ≡ collecting zones after (Some rest)
+
+-- the first group of this stage
+abbrev pub IsFirstGroup : Stage → ZoneSet → Type 0
+IsFirstGroup s group =
+    (zones : ZoneSet) × (marking : ZoneSet) × (rest : List ZoneSet)
+    × (s ≡ collecting zones marking (Some (group ∷ rest)))
 
 -- the marking of a collection is not over: it has groups that have not ended, or has none yet
 abbrev pub HasGroups : Stage → Type 0
@@ -403,14 +411,33 @@ abbrev pub IsReportedLine : GraphState → Shown → List ℕ → Shown → Type
 IsReportedLine g old line new =
     ((r : Report) × (line ≡ report_text r) × IsReported g old r new × (old.told ≡ [])) ⊎ IsToldLine old line new
 
--- a report that no world after it has; of groups, which are lawful in no world of the definitions
+-- marking may begin
+abbrev pub MayStart : Shown → Type 0
+MayStart s = (zones : ZoneSet) × (s.stage ≡ preparing zones) × (s.out ≡ [])
+
+-- the first group that has not ended may end, with these gray cells
+pub record MayEnd (g : GraphState) (s : Shown) (group : ZoneSet) (grays : List Name) : Type 0 where
+  pub none_out : s.out ≡ []
+  pub first : IsFirstGroup s.stage group
+  pub walks : Walks
+  pub found : s.walks ≡ Some walks
+  pub grays_are : Lists (λ x. HasCell s.cells x × IsGray g (zones_in group) s.former.graph walks x) grays
+
+-- the lowest arena that is out may be taken in, with these white cells
+abbrev pub MaySweep : Shown → ℕ → List Name → Type 0
+MaySweep s arena freed = (rest : List ℕ) × (s.out ≡ arena ∷ rest) × (freed ≡ whites_in s.whites arena)
+
+-- the collection may be given up, with these zones
+abbrev pub MayStop : Shown → ZoneSet → Type 0
+MayStop s zones = (s.out ≡ []) × (IsOver s → ⊥) × (zones ≡ unfinished_in s.stage)
+
+-- a report that may not come here; of groups, that are lawful in no world of the definitions
 abbrev pub IsWrongReport : GraphState → Shown → Report → Type 0
-IsWrongReport g old report.Started = (new : Shown) → Starts g old new → ⊥
+IsWrongReport g old report.Started = MayStart old → ⊥
 IsWrongReport g old (report.Groups groups) = old.out ≡ [] → AreForbidden g old groups
-IsWrongReport g old (report.Ended group grays told) =
-    told ≡ [] → (new : Shown) → EndsGroup g old group grays new → ⊥
-IsWrongReport g old (report.Swept arena freed) = (new : Shown) → Sweeps old arena freed new → ⊥
-IsWrongReport g old report.Done = (new : Shown) → Finishes old new → ⊥
+IsWrongReport g old (report.Ended group grays told) = told ≡ [] → MayEnd g old group grays → ⊥
+IsWrongReport g old (report.Swept arena freed) = MaySweep old arena freed → ⊥
+IsWrongReport g old report.Done = IsOver old → ⊥
 IsWrongReport g old (report.Stopped zones) = ⊤
 
 -- a line that is no right report of a unit, and no line that tells watched cells where one is due
@@ -442,11 +469,17 @@ IsResetReport g old (report.Stopped zones) new = Stops g old zones new
 abbrev pub IsResetLine : GraphState → Shown → List ℕ → Shown → Type 0
 IsResetLine g old line new = (r : Report) × (line ≡ report_text r) × IsResetReport g old r new
 
--- the first group of this stage
-abbrev pub IsFirstGroup : Stage → ZoneSet → Type 0
-IsFirstGroup s group =
-    (zones : ZoneSet) × (marking : ZoneSet) × (rest : List ZoneSet)
-    × (s ≡ collecting zones marking (Some (group ∷ rest)))
+-- a report of a reset that may not come here, and a line that is none that may
+abbrev pub IsWrongReset : Shown → Report → Type 0
+IsWrongReset s report.Started = ⊤
+IsWrongReset s (report.Groups groups) = ⊤
+IsWrongReset s (report.Ended group grays told) = ⊤
+IsWrongReset s (report.Swept arena freed) = MaySweep s arena freed → ⊥
+IsWrongReset s report.Done = IsOver s → ⊥
+IsWrongReset s (report.Stopped zones) = MayStop s zones → ⊥
+
+abbrev pub IsWrongResetLine : Shown → List ℕ → Type 0
+IsWrongResetLine s line = (r : Report) → line ≡ report_text r → IsWrongReset s r
 
 -- which report is due of a collection that marks or sweeps, with no arena out
 abbrev pub IsDueOf : DueReport → Stage → Type 0

@@ -1,8 +1,5 @@
 -- What a judge writes, and how it ends.
-use Rattle.std.specs.Prelude.{◌≡◌, ◌≢◌, ◌⊎◌, ℕ, ◌+◌, List, [], ◌++◌, Option, codes, ⊤}
-use Rattle.std.specs.Fmt.{decimal}
-use Rattle.std.specs.Io.KnownBytes.{Appends}
-use Rattle.gz_io.specs.Causes.{AppendsFront}
+use Rattle.std.specs.Prelude.{◌≡◌, ◌≢◌, ◌⊎◌, ℕ, ◌+◌, List, [], ⊤}
 use Rattle.gz_io.specs.Lines.{EndsLine}
 use Rattle.gz_names.specs.declared.commands.Cmd.{Cmd}
 use Rattle.colour_defs.specs.Graph.{GraphState}
@@ -10,8 +7,6 @@ use Rattle.trace_lang.specs.Grammar.{Spells}
 use Rattle.judge.specs.Lines.{IsOneLine}
 use Rattle.judge.specs.Stages.{Shown}
 use Rattle.judge.specs.Replies.{Due, nothing, Judged, IsUnmarked, IsWrongAnswer, marked}
-use Rattle.judge.specs.declared.judging.JudgeEnd.{JudgeEnd}
-use Rattle.judge.specs.declared.judging.JudgeEnd.TheVariants as end
 use Rattle.judge.specs.declared.judging.Verdict.{Verdict}
 use Rattle.judge.specs.declared.judging.Verdict.TheVariants as verdict
 use Rattle.judge.specs.declared.judging.Said.{Said}
@@ -73,36 +68,3 @@ IsVerdictOn input verdict.Cut = IsCut input
 IsVerdictOn input (verdict.Bad n) = IsFirstBad input n
 IsVerdictOn input verdict.ReadFault = ⊤
 IsVerdictOn input verdict.TooManyLines = ⊤
-
--- the line of a verdict that is not lawful, by its kind
-abbrev pub wrong_text : ℕ → List ℕ → List ℕ
-wrong_text n kind = codes "at line " ++ decimal n ++ codes ": " ++ kind ++ codes "\n"
-
--- a verdict on these bytes, and its text
-abbrev pub IsVerdictText : List ℕ → List ℕ → Type 0
-IsVerdictText input text =
-    (IsJudgedWhole input × (text ≡ codes "lawful\n"))
-    ⊎ ((n : ℕ) × (kind : List ℕ) × IsFirstWrong input n × (text ≡ wrong_text n kind))
-
--- what is written for these bytes, by how the judge ends
-abbrev pub EndsBy : List ℕ → Option (List ℕ) → Option (List ℕ) → JudgeEnd → Type 0
-EndsBy input old new end.Lawful = IsJudgedWhole input × Appends old new (codes "lawful\n")
-EndsBy input old new (end.Unlawful n) =
-    IsFirstWrong input n × (kind : List ℕ) × Appends old new (wrong_text n kind)
-EndsBy input old new end.Cut = IsCut input × Appends old new []
-EndsBy input old new (end.BadLine n) = IsFirstBad input n × Appends old new []
-EndsBy input old new end.ReadFault = Appends old new []
-EndsBy input old new end.WriteFault = (text : List ℕ) × IsVerdictText input text × AppendsFront old new text
-EndsBy input old new end.NoMemory = Appends old new []
-EndsBy input old new end.TooManyLines = Appends old new []
-
--- a verdict was written
-abbrev pub HasVerdict : JudgeEnd → Type 0
-HasVerdict end.Lawful = ⊤
-HasVerdict (end.Unlawful n) = ⊤
-HasVerdict end.Cut = ⊥
-HasVerdict (end.BadLine n) = ⊥
-HasVerdict end.ReadFault = ⊥
-HasVerdict end.WriteFault = ⊥
-HasVerdict end.NoMemory = ⊥
-HasVerdict end.TooManyLines = ⊥

@@ -12,7 +12,7 @@ ghost use Rattle.judge.specs.Sound.{IsSound};
 ghost use Rattle.judge.specs.Whites.{whites_in};
 ghost use Rattle.judge.specs.Walks.{CatchUp, CatchesUp, walks_in, walks_of};
 ghost use Rattle.judge.specs.Stages.{AreForbidden, Finishes, Forms, IsDue, IsEndedLine, IsGroupsLine, IsOver};
-ghost use Rattle.judge.specs.Stages.{IsToldLine, IsWrongReportLine, Shown, unfinished_in};
+ghost use Rattle.judge.specs.Stages.{IsToldLine, IsWrongReportLine, IsWrongResetLine, MayEnd, Shown, unfinished_in};
 ghost use Rattle.judge.specs.Stages.{IsReportedLine, IsResetLine, Starts, Stops, Sweeps, shown, stage_in};
 
 use crate::collection::{Collection, GroupEnd};
@@ -56,8 +56,7 @@ pub fn judge_reset(graph: &Graph, world: &mut World, line: &[u8]) -> Result<Faul
     requires { IsSound graph.now (shown world.old) }
     ensures right { IfOk result (λ fault. IfNone fault (IsResetLine graph.now (shown world.old) line.now
         (shown world.new))) }
-    ensures wrong { IfOk result (λ fault. IfSome fault (λ _. (new : Shown)
-        → IsResetLine graph.now (shown world.old) line.now new → ⊥)) }
+    ensures wrong { IfOk result (λ fault. IfSome fault (λ _. IsWrongResetLine (shown world.old) line.now)) }
 {
     match world.due_report() {
         DueReport::Swept(arena) => swept(world, arena, line),
@@ -224,8 +223,9 @@ fn ended(graph: &Graph, world: &mut World, line: &[u8]) -> Result<Fault, NoMemor
     requires sound { IsSound graph.now (shown world.old) }
     ensures right { IfOk result (λ fault. IfNone fault (IsEndedLine graph.now (shown world.old) line.now
         (shown world.new))) }
-    ensures wrong { IfOk result (λ fault. IfSome fault (λ _. (new : Shown)
-        → IsEndedLine graph.now (shown world.old) line.now new → ⊥)) }
+    ensures wrong { IfOk result (λ fault. IfSome fault (λ _. (group : AZoneSet) (grays : List AName)
+        → line.now ≡ report_text (the_report.Ended group grays [])
+        → MayEnd graph.now (shown world.old) group grays → ⊥)) }
 {
     let Some(end) = world.group_end(graph)? else {
         return none_due(world);

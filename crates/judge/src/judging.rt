@@ -6,7 +6,9 @@ ghost use Rattle.colour_defs.specs.Graph.{empty_graph};
 ghost use Rattle.judge.specs.Sound.{IsSound};
 ghost use Rattle.judge.specs.Stages.{IsFirst, shown};
 ghost use Rattle.judge.specs.Replies.{IsUnmarked, Steps, due_as, marked, nothing};
-ghost use Rattle.judge.specs.Verdicts.{EndsBy, HasVerdict, IsFirstWrong, IsSaid, IsVerdictOn, wrong_text};
+ghost use Rattle.judge.specs.Endings.{EndsBy, HasVerdict, MayEndLawful, wrong_text};
+ghost use Rattle.judge.specs.Transcripts.{IsLawfulInput};
+ghost use Rattle.judge.specs.Verdicts.{IsFirstWrong, IsSaid, IsVerdictOn};
 ghost use Rattle.trace_lang.specs.Grammar.{Spells};
 
 use crate::answers::{Awaited, begin_answer, judge_line};
@@ -301,6 +303,8 @@ fn tell<K: Sink>(alloc: Global, sink: &mut K, verdict: &Verdict) -> JudgeEnd
 pub fn judge<S: Source, K: Sink>(alloc: Global, source: &mut S, sink: &mut K) -> JudgeEnd
     ensures verdict { (input : List ℕ) → S.left source.old ≡ Some input
         → EndsBy input (K.written sink.old) (K.written sink.new) result }
+    ensures complete { (input : List ℕ) → S.left source.old ≡ Some input → IsLawfulInput input
+        → MayEndLawful result }
     ensures read { result ≡ JudgeEnd.ReadFault → Rose (S.faults source.old) (S.faults source.new) }
     ensures write { result ≡ JudgeEnd.WriteFault → Rose (K.faults sink.old) (K.faults sink.new) }
 {

@@ -108,5 +108,5 @@ returns-clause-wrong c =
     cc (same, c.if-is_same.false))
 
 pub returns-in_default-clause-wrong : goal.returns-in_default-clause-wrong
-returns-in_default-clause-wrong c = fault_known c.none_due.result (λ new ended.
+returns-in_default-clause-wrong c = fault_known c.none_due.result (λ group grays e may.
     none_is c.in_ok-end.field-0 c.in_default.is c.in_ok-end.ensures.none c.requires.due.1.0 c.requires.due.1.1)

@@ -19,7 +19,7 @@ returns-in_default-clause-right c =
 pub returns-in-Swept-clause-wrong : goal.returns-in-Swept-clause-wrong
 returns-in-Swept-clause-wrong c =
     let at = subst (λ d. IsDue d (shown c.args.world.now)) c.in-Swept.is c.due_report.ensures in
-    a_fault c.swept.result (not_swept c.in-Swept.arena c.args.graph.now (shown c.args.world.now) c.args.line.now at)
+    a_fault c.swept.result (not_swept c.in-Swept.arena (shown c.args.world.now) c.args.line.now at)
     c.swept.ensures.wrong
 
 pub returns-in-Done-clause-wrong : goal.returns-in-Done-clause-wrong
@@ -28,4 +28,4 @@ returns-in-Done-clause-wrong c =
     subst (λ d. IsDue d (shown c.args.world.now)) c.in-Done.is c.due_report.ensures in
     let over : IsOver (shown c.args.world.now) =
     record { zones = zones; marking = marking; ended = ended; none_out = none } in
-    a_fault c.done.result (not_done c.args.graph.now (shown c.args.world.now) c.args.line.now over) c.done.ensures.wrong
+    a_fault c.done.result (not_done (shown c.args.world.now) c.args.line.now over) c.done.ensures.wrong

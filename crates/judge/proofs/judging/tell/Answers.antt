@@ -1,7 +1,9 @@
 use Rattle.std.proofs.Common.{subst}
+use Rattle.std.proofs.KnownBytes.{Appends-nil}
 use Rattle.judge.specs.Verdicts.{IsVerdictOn}
 use Rattle.judge.specs.declared.judging.Verdict.{Verdict}
 use Rattle.judge.proofs.Ends.{fault_rose, lawful_written, no_read_fault}
+use Rattle.judge.proofs.Concluding.{bad_unread, cut_within}
 use Rattle.judge.proofs.judging.tell.Goals as goal
 
 pub returns-in-Lawful-clause-verdict : goal.returns-in-Lawful-clause-verdict
@@ -18,3 +20,15 @@ returns-in-Lawful-clause-write g c = λ e. fault_rose c.write.result _ _ _ _ _ _
 pub returns-in-Wrong-clause-verdict : goal.returns-in-Wrong-clause-verdict
 returns-in-Wrong-clause-verdict g c = λ input v.
     c.tell_wrong.ensures.verdict input (subst (λ (x : Verdict). IsVerdictOn input x) c.in-Wrong.is v)
+
+pub returns-in-Cut-clause-verdict : goal.returns-in-Cut-clause-verdict
+returns-in-Cut-clause-verdict g c = λ input v. (
+  cut_within input (subst (λ (x : Verdict). IsVerdictOn input x) c.in-Cut.is v),
+  Appends-nil (g.K.Sink.written c.args.sink.now),
+)
+
+pub returns-in-Bad-clause-verdict : goal.returns-in-Bad-clause-verdict
+returns-in-Bad-clause-verdict g c = λ input v. (
+  bad_unread input c.in-Bad.line (subst (λ (x : Verdict). IsVerdictOn input x) c.in-Bad.is v),
+  Appends-nil (g.K.Sink.written c.args.sink.now),
+)

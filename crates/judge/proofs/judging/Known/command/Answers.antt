@@ -9,7 +9,7 @@ returns-then-is_whole-clause-fine c = λ e. inl (
   c.args.command.now,
   ap due_as (c.is_whole.ensures.0 c.if-is_whole.true),
   refl,
-  c.requires.spelled,
+  (c.requires.spelled, c.requires.only),
   c.in_ok-awaited.ensures.graph,
   c.in_ok-awaited.ensures.asks,
 )

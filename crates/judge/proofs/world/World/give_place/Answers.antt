@@ -30,6 +30,7 @@ returns-clause-lies c =
       zone = c.in-Some.zone;
       place = c.in_ok-place.place;
       of = sym c.in-Some.ensures;
+      fresh = λ h. let t = c.is_present.ensures.1 h in cc (t, c.if-is_present.false);
       updates = updates;
       lies = λ w laid. subst (λ (os : List (Option ℕ)). IsPlaceFor w c.in-Some.zone c.in_ok-place.place os)
           (sym c.lay.ensures.arenas.owners) (c.in_ok-place.ensures.place w
