@@ -5,6 +5,7 @@ pub mod Walks
 pub mod Places
 pub mod Weak
 pub mod Cells
+pub mod WhiteLists
 pub mod Whites
 pub mod Slots
 pub mod Arenas
