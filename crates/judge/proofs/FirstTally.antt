@@ -31,7 +31,7 @@ use Rattle.judge.proofs.Cells.{cell_among, order_is}
 use Rattle.judge.proofs.Tallies.{same_test}
 
 -- a name comes before each of these
-before_it : (x : Name) (ys : List Name) (y : Name) → AllByRecursion (λ z. IsTrue (is_lt (name_cmp x z))) ys
+pub before_it : (x : Name) (ys : List Name) (y : Name) → AllByRecursion (λ z. IsTrue (is_lt (name_cmp x z))) ys
     → Contains ys y → IsTrue (is_lt (name_cmp x y))
 before_it x [] y all c = absurd (nothing_in_none y c)
 before_it x (z ∷ zs) y all c = elim (contains_cases z zs y c) [
@@ -39,7 +39,7 @@ before_it x (z ∷ zs) y all c = elim (contains_cases z zs y c) [
   | inr t ↦ before_it x zs y all.1 t
 ]
 
-not_itself : (x y : Name) → x ≡ y → IsTrue (is_lt (name_cmp x y)) → ⊥
+pub not_itself : (x y : Name) → x ≡ y → IsTrue (is_lt (name_cmp x y)) → ⊥
 not_itself x y e less =
     let at : is_lt (name_cmp x x) ≡ true = subst (λ z. IsTrue (is_lt (name_cmp x z))) (sym e) less in
     cc (at, ap is_lt (tied_itself names_total x))

@@ -108,7 +108,7 @@ ascending_after f x (y ∷ ys) all = go (f y) (ascending_after f x ys all.1)
     go true rest = (all.0, rest)
     go false rest = rest
 
-ascending_left : (f : Name → Bool) (xs : List Name) → IsAscending xs → IsAscending (filter f xs)
+pub ascending_left : (f : Name → Bool) (xs : List Name) → IsAscending xs → IsAscending (filter f xs)
 ascending_left f [] up = tt
 ascending_left f (x ∷ xs) up = go (f x) (ascending_left f xs up.1)
   where
@@ -116,7 +116,7 @@ ascending_left f (x ∷ xs) up = go (f x) (ascending_left f xs up.1)
     go true rest = (ascending_after f x xs up.0, rest)
     go false rest = rest
 
-left_was : (f : Name → Bool) (xs : List Name) (x : Name) → Contains (filter f xs) x → Contains xs x × IsTrue (f x)
+pub left_was : (f : Name → Bool) (xs : List Name) (x : Name) → Contains (filter f xs) x → Contains xs x × IsTrue (f x)
 left_was f [] x c = absurd (nothing_in_none x c)
 left_was f (y ∷ ys) x c = go (left_was f ys x) (f y) refl c
   where

@@ -36,6 +36,7 @@ pub mod Lying
 pub mod Laid
 pub mod Slots
 pub mod NewCells
+pub mod Fitting
 pub mod Freed
 pub mod Determined
 pub mod Packing

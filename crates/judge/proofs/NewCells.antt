@@ -1,5 +1,6 @@
 -- Where a new cell lies.
-use Rattle.std.proofs.Common.{◌≡◌, ◌∙◌, ◌⊎◌, inl, inr, ℕ, zero, suc, ◌<◌, ◌≤◌, Bool, true, false, List, [], ◌∷◌, ◌++◌, length}
+use Rattle.std.proofs.Common.{◌≡◌, ◌∙◌, ◌⊎◌, inl, inr, ℕ, zero, suc, ◌<◌, ◌≤◌, Bool, true, false, List, [], ◌∷◌}
+use Rattle.std.proofs.Common.{◌++◌, length}
 use Rattle.std.proofs.Common.{reverse, Contains, Option, Some, None, refl, sym, ap, arith, subst}
 use Rattle.std.specs.Prelude.{slice_get}
 use Rattle.std.specs.BTreeMap as tree
@@ -11,7 +12,7 @@ use Rattle.colour_defs.specs.World.{IsFreeSlot, IsPlaceFor, World}
 use Rattle.plain_graph.specs.Indexed.{order_of}
 use Rattle.judge.specs.Arenas.{AreSameSlots, HasSlots, flags_in, owners_in}
 use Rattle.judge.specs.Cells.{Cells}
-use Rattle.judge.specs.Places.{AreLaid, IsEmpty, place_order}
+use Rattle.judge.specs.Places.{AreLaid, AreSpread, IsEmpty, place_order}
 use Rattle.judge.specs.Slots.{IsFull, IsOpen}
 use Rattle.judge.proofs.Slots.{at_least}
 use Rattle.judge.specs.declared.arenas.Arenas.{Arenas}
@@ -137,3 +138,14 @@ slots_as cells a w laid owners out places = record {
         → tree.get place_order a.lying p ≡ o → ⊥
     go p un free None e = un e
     go p un free (Some x) e = laid.back x p e (λ h. free x (places x ∙ h))
+
+-- no two of its cells have one place
+pub spread_of : (cells : Cells) (a : Arenas) → AreLaid cells a.lying → AreSpread cells
+spread_of cells a laid = record {
+  apart = λ x y p at too un. laid.there x p at (λ h. laid.there y p too (λ k.
+      un (let e : Some x ≡ Some y = sym h ∙ k in cc e)));
+  below = λ x p at. elim (at_least p.1 64) [
+    | inl past ↦ absurd (laid.there x p at (λ h. a.kept.below p past (λ none. cc (h, none))))
+    | inr less ↦ less
+  ];
+}

@@ -1,5 +1,6 @@
 -- Which arenas are out, which are full, and which slots are taken.
-use Rattle.std.proofs.Common.{◌≡◌, ◌∙◌, ◌⊎◌, inl, inr, ℕ, zero, suc, ◌+◌, ◌-◌, ◌^◌, ◌<◌, ◌≤◌, Bool, true, false, List, [], ◌∷◌, ◌++◌}
+use Rattle.std.proofs.Common.{◌≡◌, ◌∙◌, ◌⊎◌, inl, inr, ℕ, zero, suc, ◌+◌, ◌-◌, ◌^◌, ◌<◌, ◌≤◌, Bool, true, false}
+use Rattle.std.proofs.Common.{List, [], ◌∷◌, ◌++◌}
 use Rattle.std.proofs.Common.{length, get_or, reverse, set, take, Contains, Option, Some, None, refl, sym, ap, arith}
 use Rattle.std.proofs.Common.{subst}
 use Rattle.std.specs.Prelude.{slice_get}
@@ -16,9 +17,11 @@ use Rattle.gz_names.specs.declared.numbers.Place.{Place}
 use Rattle.colour_defs.proofs.Lists.{contains_cases, contains_head, get_append, get_push_cases, get_set_cases}
 use Rattle.colour_defs.proofs.Lists.{length_push, nothing_in_none}
 use Rattle.judge.specs.Places.{IsEmpty, Lying, place_order}
-use Rattle.judge.specs.Slots.{AreFlagged, AreFull, AreKept, AreMade, AreTaken, IsFull, IsOpen, flag_of, flags_of}
+use Rattle.judge.specs.Slots.{AreFlagged, AreFull, AreKept, AreMade, AreTaken, IsFull, IsOpen, IsTakenTo}
+use Rattle.judge.specs.Slots.{flag_of, flags_of}
 use Rattle.judge.specs.Slots.{owner_of, owners_of, taken_of, takens_of}
 use Rattle.judge.specs.declared.arenas.Arena.{Arena}
+use Rattle.judge.specs.declared.arenas.Arenas.{Arenas}
 use Rattle.judge.proofs.Laid.{cell_in}
 use Rattle.judge.proofs.Owners.{same_owner}
 
@@ -103,17 +106,17 @@ flagged_more flags out f = record {
 
 -- more is known to be taken of an arena, or less
 pub taken_set : (takens : List ℕ) (lying : Lying) (i k : ℕ)
-    → ((s : ℕ) → s < k → s < 64 → IsEmpty lying (i, s) → ⊥) → AreTaken takens lying → AreTaken (set takens i k) lying
-taken_set takens lying i k here t = λ n s m at below less e. elim (get_set_cases takens i n k) [
-  | inl same ↦ t n s m (sym same ∙ at) below less e
+    → IsTakenTo lying i k → AreTaken takens lying → AreTaken (set takens i k) lying
+taken_set takens lying i k here t = λ n m at s below less e. elim (get_set_cases takens i n k) [
+  | inl same ↦ t n m (sym same ∙ at) s below less e
   | inr h ↦
       let is : m ≡ k = (let a = h.1 in cc (a, at)) in
       here s (subst (λ j. s < j) is below) less (subst (λ j. IsEmpty lying (j, s)) (sym h.0) e)
 ]
 
 pub taken_more : (takens : List ℕ) (lying : Lying) → AreTaken takens lying → AreTaken (takens ++ 0 ∷ []) lying
-taken_more takens lying t = λ n s m at below less e. elim (get_push_cases takens 0 n) [
-  | inl same ↦ t n s m (sym same ∙ at) below less e
+taken_more takens lying t = λ n m at s below less e. elim (get_push_cases takens 0 n) [
+  | inl same ↦ t n m (sym same ∙ at) s below less e
   | inr h ↦
       let is : m ≡ 0 = (let a = h.1 in cc (a, at)) in
       let none : s < 0 = subst (λ j. s < j) is below in absurd (omega (arith, none))
@@ -122,7 +125,7 @@ taken_more takens lying t = λ n s m at below less e. elim (get_push_cases taken
 -- fewer places are empty
 pub taken_fewer : (takens : List ℕ) (old new : Lying) → ((p : Place) → IsEmpty new p → IsEmpty old p)
     → AreTaken takens old → AreTaken takens new
-taken_fewer takens old new fewer t = λ n s m at below less e. t n s m at below less (fewer (n, s) e)
+taken_fewer takens old new fewer t = λ n m at s below less e. t n m at s below less (fewer (n, s) e)
 
 pub full_fewer : (owners : List (Option ℕ)) (flags : List Bool) (lowest : List ℕ) (old new : Lying)
     → ((p : Place) → IsEmpty new p → IsEmpty old p) → AreFull owners flags lowest old
@@ -253,11 +256,11 @@ set_taken arenas i now k at =
     set_is (takens_of arenas) i now.taken k (ap (λ ts. slice_get ts i) (sym (map-set taken_of arenas i now)) ∙ at)
 
 -- the slots are taken of which an arena says so
-pub taken_here : (arenas : List Arena) (lying : Lying) (i : ℕ) (was : Arena) → i < length arenas → was ≡ get_or arenas i was
-    → AreTaken (takens_of arenas) lying → (s : ℕ) → s < was.taken → s < 64 → IsEmpty lying (i, s) → ⊥
-taken_here arenas lying i was below at t s less small e =
-    t i s was.taken (slice_get-map taken_of arenas i ∙ ap (option_map taken_of) (slice_get-get_or arenas i was below
-    ∙ ap Some (sym at))) less small e
+pub taken_here : (arenas : List Arena) (lying : Lying) (i : ℕ) (was : Arena) → i < length arenas
+    → was ≡ get_or arenas i was → AreTaken (takens_of arenas) lying → IsTakenTo lying i was.taken
+taken_here arenas lying i was below at t =
+    t i was.taken (slice_get-map taken_of arenas i ∙ ap (option_map taken_of) (slice_get-get_or arenas i was below
+    ∙ ap Some (sym at)))
 
 -- a new cell of a zone may lie in an arena that says so
 pub open_at : (arenas : List Arena) (i z : ℕ) (a : Arena) → i < length arenas → a ≡ get_or arenas i a
@@ -271,178 +274,228 @@ open_at arenas i z a below at owner flag =
 as_many : (arenas : List Arena) → length (owners_of arenas) ≡ length (flags_of arenas)
 as_many arenas = length-map arenas owner_of ∙ sym (length-map arenas flag_of)
 
-few_set : (arenas : List Arena) (i : ℕ) (now : Arena) → length arenas < 2 ^ 32
-    → length (set arenas i now) < 2 ^ 32
-few_set arenas i now few = subst (λ n. n < 2 ^ 32) (sym (length-set arenas i now)) few
+-- arenas, those that are out, the hints of the zones, and the cells by their places
+pub record Table : Type 0 where
+  pub arenas : List Arena
+  pub out : List ℕ
+  pub lowest : List ℕ
+  pub lying : Lying
 
-made_set : (arenas : List Arena) (i : ℕ) (now : Arena) (lying : Lying) → AreMade arenas lying
-    → AreMade (set arenas i now) lying
-made_set arenas i now lying made = λ p past. made p (subst (λ n. n ≤ p.0) (length-set arenas i now) past)
+abbrev pub table_of : Arenas → Table
+table_of a =
+    record { arenas = a.arenas.items; out = a.out.items; lowest = a.lowest; lying = a.lying }
+
+abbrev pub IsKept : Table → Type 0
+IsKept t = AreKept t.arenas t.out t.lowest t.lying
+
+-- an arena is written over
+pub record IsWritten (arenas : List Arena) : Type 0 where
+  pub number : ℕ
+  pub was : Arena
+  pub now : Arena
+  pub at : was ≡ get_or arenas number was
+
+abbrev pub written : (arenas : List Arena) → IsWritten arenas → List Arena
+written arenas w = set arenas w.number w.now
+
+few_set : (arenas : List Arena) (w : IsWritten arenas) → length arenas < 2 ^ 32
+    → length (written arenas w) < 2 ^ 32
+few_set arenas w few = subst (λ n. n < 2 ^ 32) (sym (length-set arenas w.number w.now)) few
+
+made_set : (arenas : List Arena) (w : IsWritten arenas) (lying : Lying) → AreMade arenas lying
+    → AreMade (written arenas w) lying
+made_set arenas w lying made = λ p past. made p (subst (λ n. n ≤ p.0) (length-set arenas w.number w.now) past)
+
+-- it is of the same zone, and as many slots are known to be taken
+full_same : (t : Table) (w : IsWritten t.arenas) (flags : List Bool) → w.now.owner ≡ w.was.owner
+    → flags_of (written t.arenas w) ≡ flags → AreFull (owners_of t.arenas) flags t.lowest t.lying
+    → AreFull (owners_of (written t.arenas w)) (flags_of (written t.arenas w)) t.lowest t.lying
+full_same t w flags owner is full =
+    subst (λ os. AreFull os (flags_of (written t.arenas w)) t.lowest t.lying)
+    (sym (same_owner t.arenas w.number w.was w.now w.at owner))
+    (subst (λ fs. AreFull (owners_of t.arenas) fs t.lowest t.lying) (sym is) full)
+
+taken_same : (t : Table) (w : IsWritten t.arenas) → w.now.taken ≡ w.was.taken → AreTaken (takens_of t.arenas) t.lying
+    → AreTaken (takens_of (written t.arenas w)) t.lying
+taken_same t w same taken =
+    subst (λ ts. AreTaken ts t.lying) (sym (takens_same t.arenas w.number w.was w.now w.at same)) taken
 
 -- of an arena more slots are known to be taken, or fewer
-pub kept_taken : (arenas : List Arena) (out lowest : List ℕ) (lying : Lying) (i : ℕ) (was now : Arena)
-    → was ≡ get_or arenas i was → now.owner ≡ was.owner → now.is_out ≡ was.is_out
-    → ((s : ℕ) → s < now.taken → s < 64 → IsEmpty lying (i, s) → ⊥) → AreKept arenas out lowest lying
-    → AreKept (set arenas i now) out lowest lying
-kept_taken arenas out lowest lying i was now at owner flag here k = record {
-  few = few_set arenas i now k.few;
-  made = made_set arenas i now lying k.made;
-  flagged = subst (λ fs. AreFlagged fs out) (sym (flags_same arenas i was now at flag)) k.flagged;
-  taken = subst (λ ts. AreTaken ts lying) (sym (map-set taken_of arenas i now))
-      (taken_set (takens_of arenas) lying i now.taken here k.taken);
-  full = subst (λ os. AreFull os (flags_of (set arenas i now)) lowest lying) (sym (same_owner arenas i was now at owner))
-      (subst (λ fs. AreFull (owners_of arenas) fs lowest lying) (sym (flags_same arenas i was now at flag)) k.full);
+pub kept_taken : (t : Table) (w : IsWritten t.arenas) → w.now.owner ≡ w.was.owner → w.now.is_out ≡ w.was.is_out
+    → IsTakenTo t.lying w.number w.now.taken → IsKept t → IsKept (record t { arenas = written t.arenas w })
+kept_taken t w owner flag here k = record {
+  few = few_set t.arenas w k.few;
+  made = made_set t.arenas w t.lying k.made;
+  below = k.below;
+  flagged = subst (λ fs. AreFlagged fs t.out) (sym flags) k.flagged;
+  taken = subst (λ ts. AreTaken ts t.lying) (sym (map-set taken_of t.arenas w.number w.now))
+      (taken_set (takens_of t.arenas) t.lying w.number w.now.taken here k.taken);
+  full = full_same t w (flags_of t.arenas) owner flags k.full;
 }
+  where
+    flags : flags_of (written t.arenas w) ≡ flags_of t.arenas
+    flags = flags_same t.arenas w.number w.was w.now w.at flag
 
 -- the arenas of a zone are full below another one
-pub kept_lowest : (arenas : List Arena) (out lowest : List ℕ) (lying : Lying) (z i : ℕ)
-    → ((n : ℕ) → n < i → IsFull (owners_of arenas) (flags_of arenas) lying z n) → AreKept arenas out lowest lying
-    → AreKept arenas out (set lowest z i) lying
-kept_lowest arenas out lowest lying z i here k = record {
+pub kept_lowest : (t : Table) (z i : ℕ)
+    → ((n : ℕ) → n < i → IsFull (owners_of t.arenas) (flags_of t.arenas) t.lying z n) → IsKept t
+    → IsKept (record t { lowest = set t.lowest z i })
+kept_lowest t z i here k = record {
   few = k.few;
   made = k.made;
+  below = k.below;
   flagged = k.flagged;
   taken = k.taken;
-  full = full_set (owners_of arenas) (flags_of arenas) lowest lying z i here k.full;
+  full = full_set (owners_of t.arenas) (flags_of t.arenas) t.lowest t.lying z i here k.full;
 }
 
 -- an arena is given up
-pub kept_given : (arenas : List Arena) (out lowest : List ℕ) (lying : Lying) (i : ℕ) (was now : Arena)
-    → was ≡ get_or arenas i was → now.owner ≡ None → now.is_out ≡ was.is_out → now.taken ≡ was.taken
-    → AreKept arenas out lowest lying → AreKept (set arenas i now) out lowest lying
-kept_given arenas out lowest lying i was now at none flag taken k = record {
-  few = few_set arenas i now k.few;
-  made = made_set arenas i now lying k.made;
-  flagged = subst (λ fs. AreFlagged fs out) (sym (flags_same arenas i was now at flag)) k.flagged;
-  taken = subst (λ ts. AreTaken ts lying) (sym (takens_same arenas i was now at taken)) k.taken;
-  full = subst (λ os. AreFull os (flags_of (set arenas i now)) lowest lying)
-      (sym (map-set owner_of arenas i now ∙ ap (set (owners_of arenas) i) none))
-      (full_given (owners_of arenas) (flags_of (set arenas i now)) lowest lying i
-      (subst (λ fs. AreFull (owners_of arenas) fs lowest lying) (sym (flags_same arenas i was now at flag)) k.full));
+pub kept_given : (t : Table) (w : IsWritten t.arenas) → w.now.owner ≡ None → w.now.is_out ≡ w.was.is_out
+    → w.now.taken ≡ w.was.taken → IsKept t → IsKept (record t { arenas = written t.arenas w })
+kept_given t w none flag taken k = record {
+  few = few_set t.arenas w k.few;
+  made = made_set t.arenas w t.lying k.made;
+  below = k.below;
+  flagged = subst (λ fs. AreFlagged fs t.out) (sym flags) k.flagged;
+  taken = taken_same t w taken k.taken;
+  full = subst (λ os. AreFull os (flags_of (written t.arenas w)) t.lowest t.lying)
+      (sym (map-set owner_of t.arenas w.number w.now ∙ ap (set (owners_of t.arenas) w.number) none))
+      (full_given (owners_of t.arenas) (flags_of (written t.arenas w)) t.lowest t.lying w.number
+      (subst (λ fs. AreFull (owners_of t.arenas) fs t.lowest t.lying) (sym flags) k.full));
 }
+  where
+    flags : flags_of (written t.arenas w) ≡ flags_of t.arenas
+    flags = flags_same t.arenas w.number w.was w.now w.at flag
 
 -- an arena goes out
-pub kept_out : (arenas : List Arena) (out more lowest : List ℕ) (lying : Lying) (i : ℕ) (was now : Arena)
-    → was ≡ get_or arenas i was → i < length arenas → now.owner ≡ was.owner → now.is_out ≡ true
-    → now.taken ≡ was.taken → more ≡ out ++ i ∷ [] → AreKept arenas out lowest lying
-    → AreKept (set arenas i now) more lowest lying
-kept_out arenas out more lowest lying i was now at below owner flag taken pushed k = record {
-  few = few_set arenas i now k.few;
-  made = made_set arenas i now lying k.made;
-  flagged = subst (λ fs. AreFlagged fs more) (sym flags) (flagged_out (flags_of arenas) i out more
-      (subst (λ n. i < n) (sym (length-map arenas flag_of)) below) pushed k.flagged);
-  taken = subst (λ ts. AreTaken ts lying) (sym (takens_same arenas i was now at taken)) k.taken;
-  full = subst (λ os. AreFull os (flags_of (set arenas i now)) lowest lying) (sym (same_owner arenas i was now at owner))
-      (subst (λ fs. AreFull (owners_of arenas) fs lowest lying) (sym flags)
-      (full_out (owners_of arenas) (flags_of arenas) lowest lying i k.full));
+pub kept_out : (t : Table) (w : IsWritten t.arenas) (more : List ℕ) → w.number < length t.arenas
+    → w.now.owner ≡ w.was.owner → w.now.is_out ≡ true → w.now.taken ≡ w.was.taken → more ≡ t.out ++ w.number ∷ []
+    → IsKept t → IsKept (record t { arenas = written t.arenas w; out = more })
+kept_out t w more below owner flag taken pushed k = record {
+  few = few_set t.arenas w k.few;
+  made = made_set t.arenas w t.lying k.made;
+  below = k.below;
+  flagged = subst (λ fs. AreFlagged fs more) (sym flags) (flagged_out (flags_of t.arenas) w.number t.out more
+      (subst (λ n. w.number < n) (sym (length-map t.arenas flag_of)) below) pushed k.flagged);
+  taken = taken_same t w taken k.taken;
+  full = full_same t w (set (flags_of t.arenas) w.number true) owner flags
+      (full_out (owners_of t.arenas) (flags_of t.arenas) t.lowest t.lying w.number k.full);
 }
   where
-    flags : flags_of (set arenas i now) ≡ set (flags_of arenas) i true
-    flags = map-set flag_of arenas i now ∙ ap (set (flags_of arenas) i) flag
+    flags : flags_of (written t.arenas w) ≡ set (flags_of t.arenas) w.number true
+    flags = map-set flag_of t.arenas w.number w.now ∙ ap (set (flags_of t.arenas) w.number) flag
 
 -- an arena comes in, which is looked at for the next cells of its zone
-pub kept_in : (arenas : List Arena) (out rest lowest : List ℕ) (lying : Lying) (i : ℕ) (was now : Arena)
-    → was ≡ get_or arenas i was → now.owner ≡ was.owner → now.is_out ≡ false → now.taken ≡ was.taken
-    → out ≡ rest ++ i ∷ [] → (Contains rest i → ⊥)
-    → ((z : ℕ) → slice_get (owners_of arenas) i ≡ Some (Some z) → get_or lowest z 0 ≤ i)
-    → AreKept arenas out lowest lying → AreKept (set arenas i now) rest lowest lying
-kept_in arenas out rest lowest lying i was now at owner flag taken popped absent low k = record {
-  few = few_set arenas i now k.few;
-  made = made_set arenas i now lying k.made;
+pub kept_in : (t : Table) (w : IsWritten t.arenas) (rest : List ℕ) → w.now.owner ≡ w.was.owner
+    → w.now.is_out ≡ false → w.now.taken ≡ w.was.taken → t.out ≡ rest ++ w.number ∷ []
+    → (Contains rest w.number → ⊥)
+    → ((z : ℕ) → slice_get (owners_of t.arenas) w.number ≡ Some (Some z) → get_or t.lowest z 0 ≤ w.number)
+    → IsKept t → IsKept (record t { arenas = written t.arenas w; out = rest })
+kept_in t w rest owner flag taken popped absent low k = record {
+  few = few_set t.arenas w k.few;
+  made = made_set t.arenas w t.lying k.made;
+  below = k.below;
   flagged = subst (λ fs. AreFlagged fs rest) (sym flags)
-      (flagged_in (flags_of arenas) i out rest popped absent k.flagged);
-  taken = subst (λ ts. AreTaken ts lying) (sym (takens_same arenas i was now at taken)) k.taken;
-  full = subst (λ os. AreFull os (flags_of (set arenas i now)) lowest lying) (sym (same_owner arenas i was now at owner))
-      (subst (λ fs. AreFull (owners_of arenas) fs lowest lying) (sym flags)
-      (full_in (owners_of arenas) (flags_of arenas) lowest lying i low k.full));
+      (flagged_in (flags_of t.arenas) w.number t.out rest popped absent k.flagged);
+  taken = taken_same t w taken k.taken;
+  full = full_same t w (set (flags_of t.arenas) w.number false) owner flags
+      (full_in (owners_of t.arenas) (flags_of t.arenas) t.lowest t.lying w.number low k.full);
 }
   where
-    flags : flags_of (set arenas i now) ≡ set (flags_of arenas) i false
-    flags = map-set flag_of arenas i now ∙ ap (set (flags_of arenas) i) flag
+    flags : flags_of (written t.arenas w) ≡ set (flags_of t.arenas) w.number false
+    flags = map-set flag_of t.arenas w.number w.now ∙ ap (set (flags_of t.arenas) w.number) flag
 
-pub kept_still : (arenas : List Arena) (out rest lowest : List ℕ) (lying : Lying) (i : ℕ) → out ≡ rest ++ i ∷ []
-    → Contains rest i → AreKept arenas out lowest lying → AreKept arenas rest lowest lying
-kept_still arenas out rest lowest lying i popped still k = record {
+pub kept_still : (t : Table) (i : ℕ) (rest : List ℕ) → t.out ≡ rest ++ i ∷ [] → Contains rest i → IsKept t
+    → IsKept (record t { out = rest })
+kept_still t i rest popped still k = record {
   few = k.few;
   made = k.made;
-  flagged = flagged_still (flags_of arenas) i out rest popped still k.flagged;
+  below = k.below;
+  flagged = flagged_still (flags_of t.arenas) i t.out rest popped still k.flagged;
   taken = k.taken;
   full = k.full;
 }
 
 -- an arena that is out is there
-pub out_there : (arenas : List Arena) (out lowest : List ℕ) (lying : Lying) (i : ℕ) → Contains out i
-    → AreKept arenas out lowest lying → i < length arenas
-out_there arenas out lowest lying i c k = elim (at_least i (length arenas)) [
-  | inl past ↦ absurd (k.flagged.said i c (λ e. let below = slice_get_within (flags_of arenas) i true e in
-      let many = length-map arenas flag_of in omega (arith, below, many, past)))
+pub out_there : (t : Table) (i : ℕ) → Contains t.out i → IsKept t → i < length t.arenas
+out_there t i c k = elim (at_least i (length t.arenas)) [
+  | inl past ↦ absurd (k.flagged.said i c (λ e. let below = slice_get_within (flags_of t.arenas) i true e in
+      let many = length-map t.arenas flag_of in omega (arith, below, many, past)))
   | inr below ↦ below
 ]
 
 -- an arena is made
-pub kept_more : (arenas new : List Arena) (out lowest : List ℕ) (lying : Lying) (z n : ℕ) (a : Arena)
-    → new ≡ arenas ++ a ∷ [] → n ≡ length arenas → n + 1 < 2 ^ 32 → a.owner ≡ Some z → a.is_out ≡ false
-    → a.taken ≡ 0
-    → ((m : ℕ) → m < length arenas → IsFull (owners_of arenas) (flags_of arenas) lying z m)
-    → AreKept arenas out lowest lying → AreKept new out (set lowest z n) lying
-kept_more arenas new out lowest lying z n a pushed at few owner flag taken here k = record {
+abbrev pub new_arena : ℕ → Arena
+new_arena z = record { owner = Some z; taken = 0; is_out = false }
+
+pub kept_more : (t : Table) (new : List Arena) (z n : ℕ) → new ≡ t.arenas ++ new_arena z ∷ []
+    → n ≡ length t.arenas → n + 1 < 2 ^ 32
+    → ((m : ℕ) → m < length t.arenas → IsFull (owners_of t.arenas) (flags_of t.arenas) t.lying z m) → IsKept t
+    → IsKept (record t { arenas = new; lowest = set t.lowest z n })
+kept_more t new z n pushed at few here k = record {
   few = omega (arith, few, at, many);
   made = λ p past. k.made p (omega (arith, past, many));
-  flagged = subst (λ fs. AreFlagged fs out) (sym flags) (flagged_more (flags_of arenas) out k.flagged);
-  taken = subst (λ ts. AreTaken ts lying) (sym takens) (taken_more (takens_of arenas) lying k.taken);
-  full = subst (λ m. AreFull (owners_of new) (flags_of new) (set lowest z m) lying)
-      (length-map arenas owner_of ∙ sym at)
-      (subst (λ os. AreFull os (flags_of new) (set lowest z (length (owners_of arenas))) lying) (sym owners)
-      (subst (λ fs. AreFull (owners_of arenas ++ Some z ∷ []) fs (set lowest z (length (owners_of arenas))) lying)
-      (sym flags)
-      (full_more (owners_of arenas) (flags_of arenas) lowest lying z (as_many arenas)
-      (λ m below. here m (subst (λ l. m < l) (length-map arenas owner_of) below)) k.full)));
+  below = k.below;
+  flagged = subst (λ fs. AreFlagged fs t.out) (sym flags) (flagged_more (flags_of t.arenas) t.out k.flagged);
+  taken = subst (λ ts. AreTaken ts t.lying) (sym takens) (taken_more (takens_of t.arenas) t.lying k.taken);
+  full = subst (λ m. AreFull (owners_of new) (flags_of new) (set t.lowest z m) t.lying)
+      (length-map t.arenas owner_of ∙ sym at)
+      (subst (λ os. AreFull os (flags_of new) (set t.lowest z (length (owners_of t.arenas))) t.lying) (sym owners)
+      (subst (λ fs. AreFull (owners_of t.arenas ++ Some z ∷ []) fs (set t.lowest z (length (owners_of t.arenas)))
+      t.lying) (sym flags)
+      (full_more (owners_of t.arenas) (flags_of t.arenas) t.lowest t.lying z (as_many t.arenas)
+      (λ m below. here m (subst (λ l. m < l) (length-map t.arenas owner_of) below)) k.full)));
 }
   where
-    many : length new ≡ suc (length arenas)
-    many = ap length pushed ∙ length_push arenas a
+    many : length new ≡ suc (length t.arenas)
+    many = ap length pushed ∙ length_push t.arenas (new_arena z)
 
-    owners : owners_of new ≡ owners_of arenas ++ Some z ∷ []
-    owners = ap owners_of pushed ∙ map-append owner_of arenas (a ∷ []) ∙ ap (λ o. owners_of arenas ++ o ∷ []) owner
+    owners : owners_of new ≡ owners_of t.arenas ++ Some z ∷ []
+    owners = ap owners_of pushed ∙ map-append owner_of t.arenas (new_arena z ∷ [])
 
-    flags : flags_of new ≡ flags_of arenas ++ false ∷ []
-    flags = ap flags_of pushed ∙ map-append flag_of arenas (a ∷ []) ∙ ap (λ f. flags_of arenas ++ f ∷ []) flag
+    flags : flags_of new ≡ flags_of t.arenas ++ false ∷ []
+    flags = ap flags_of pushed ∙ map-append flag_of t.arenas (new_arena z ∷ [])
 
-    takens : takens_of new ≡ takens_of arenas ++ 0 ∷ []
-    takens = ap takens_of pushed ∙ map-append taken_of arenas (a ∷ []) ∙ ap (λ t. takens_of arenas ++ t ∷ []) taken
+    takens : takens_of new ≡ takens_of t.arenas ++ 0 ∷ []
+    takens = ap takens_of pushed ∙ map-append taken_of t.arenas (new_arena z ∷ [])
 
 -- a cell lies in a place
-pub kept_lain : (arenas : List Arena) (out lowest : List ℕ) (old new : Lying) (p : Place) (x : Name)
-    → p.0 < length arenas → tree.Updates place_order old new p (Some x) → AreKept arenas out lowest old
-    → AreKept arenas out lowest new
-kept_lain arenas out lowest old new p x below up k = record {
+pub kept_lain : (t : Table) (new : Lying) (p : Place) (x : Name) → p.0 < length t.arenas → p.1 < 64
+    → tree.Updates place_order t.lying new p (Some x) → IsKept t → IsKept (record t { lying = new })
+kept_lain t new p x below slot up k = record {
   few = k.few;
-  made = λ q past un. k.made q past (λ e. elim (cell_in old new p q (Some x) up) [
+  made = λ q past un. k.made q past (λ e. elim (cell_in t.lying new p q (Some x) up) [
     | inl here ↦ (let same : p.0 ≡ q.0 = ap (λ (r : Place). r.0) here.0 in omega (arith, same, below, past))
     | inr elsewhere ↦ un (elsewhere.1 ∙ e)
   ]);
+  below = λ q past un. k.below q past (λ e. elim (cell_in t.lying new p q (Some x) up) [
+    | inl here ↦ (let same : p.1 ≡ q.1 = ap (λ (r : Place). r.1) here.0 in omega (arith, same, slot, past))
+    | inr elsewhere ↦ un (elsewhere.1 ∙ e)
+  ]);
   flagged = k.flagged;
-  taken = taken_fewer (takens_of arenas) old new (empty_before old new p x up) k.taken;
-  full = full_fewer (owners_of arenas) (flags_of arenas) lowest old new (empty_before old new p x up) k.full;
+  taken = taken_fewer (takens_of t.arenas) t.lying new (empty_before t.lying new p x up) k.taken;
+  full = full_fewer (owners_of t.arenas) (flags_of t.arenas) t.lowest t.lying new (empty_before t.lying new p x up)
+      k.full;
 }
 
 -- no cell lies in a place any more, which is looked at for the next cells of its zone
-pub kept_left : (arenas : List Arena) (out lowest : List ℕ) (old new : Lying) (p : Place)
-    → ((k : ℕ) → slice_get (takens_of arenas) p.0 ≡ Some k → k ≤ p.1)
-    → ((z : ℕ) → slice_get (owners_of arenas) p.0 ≡ Some (Some z) → get_or lowest z 0 ≤ p.0)
-    → tree.Updates place_order old new p None → AreKept arenas out lowest old → AreKept arenas out lowest new
-kept_left arenas out lowest old new p most low up k = record {
+pub kept_left : (t : Table) (new : Lying) (p : Place)
+    → ((k : ℕ) → slice_get (takens_of t.arenas) p.0 ≡ Some k → k ≤ p.1)
+    → ((z : ℕ) → slice_get (owners_of t.arenas) p.0 ≡ Some (Some z) → get_or t.lowest z 0 ≤ p.0)
+    → tree.Updates place_order t.lying new p None → IsKept t → IsKept (record t { lying = new })
+kept_left t new p most low up k = record {
   few = k.few;
-  made = λ q past un. k.made q past (λ e. un (empty_after old new p q up e));
+  made = λ q past un. k.made q past (λ e. un (empty_after t.lying new p q up e));
+  below = λ q past un. k.below q past (λ e. un (empty_after t.lying new p q up e));
   flagged = k.flagged;
-  taken = λ n s m at below less e. k.taken n s m at below less (empty_elsewhere old new p (n, s) None up
+  taken = λ n m at s below less e. k.taken n m at s below less (empty_elsewhere t.lying new p (n, s) None up
       (λ same. let first : p.0 ≡ n = ap (λ (r : Place). r.0) same in
       let second : p.1 ≡ s = ap (λ (r : Place). r.1) same in
-      let no = most m (subst (λ j. slice_get (takens_of arenas) j ≡ Some m) (sym first) at) in
+      let no = most m (subst (λ j. slice_get (takens_of t.arenas) j ≡ Some m) (sym first) at) in
       omega (arith, no, below, second)) e);
-  full = λ z n below o s less e. k.full z n below o s less (empty_elsewhere old new p (n, s) None up
+  full = λ z n below o s less e. k.full z n below o s less (empty_elsewhere t.lying new p (n, s) None up
       (λ same. let first : p.0 ≡ n = ap (λ (r : Place). r.0) same in
-      let no = low z (subst (λ j. slice_get (owners_of arenas) j ≡ Some (Some z)) (sym first) o.0) in
+      let no = low z (subst (λ j. slice_get (owners_of t.arenas) j ≡ Some (Some z)) (sym first) o.0) in
       omega (arith, no, below, first)) e);
 }
 

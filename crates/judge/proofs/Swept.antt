@@ -1,10 +1,13 @@
 -- The white cells that wait to be swept.
-use Rattle.std.proofs.Common.{◌≡◌, ◌∙◌, ℕ, ◌+◌, ◌<◌, ◌≤◌, Bool, true, false, cond, List, [], ◌∷◌, ◌++◌, length, get_or}
-use Rattle.std.proofs.Common.{take, Option, Some, None, refl, sym, ap, subst, eqb-true, eq-eqb}
-use Rattle.std.specs.Prelude.{nat_eq}
+use Rattle.std.proofs.Common.{◌≡◌, ◌∙◌, ℕ, ◌+◌, ◌<◌, ◌≤◌, Bool, true, false, cond, List, [], ◌∷◌, ◌++◌, length}
+use Rattle.std.proofs.Common.{get_or}
+use Rattle.std.proofs.Common.{take, length-append, Option, Some, None, Result, Ok, Err, refl, sym, ap, subst, arith}
+use Rattle.std.proofs.Common.{eqb-true, eq-eqb}
+use Rattle.std.specs.Prelude.{OnErr, OnOk, nat_eq}
 use Rattle.std.specs.BTreeMap as tree
 use Rattle.std.specs.Cmp.{unsigned_ties}
 use Rattle.std.specs.List.{filter}
+use Rattle.std.specs.Map.{lookup}
 use Rattle.std.specs.Ordering.{is_eq, nat_cmp}
 use Rattle.std.proofs.lemmas.List.{append-nil, take_all, take_more}
 use Rattle.std.proofs.lemmas.List.Elements.{filter-append}
@@ -12,6 +15,7 @@ use Rattle.gz_names.specs.declared.names.Name.{Name}
 use Rattle.gz_names.specs.declared.numbers.Place.{Place}
 use Rattle.plain_graph.specs.Indexed.{order_of}
 use Rattle.judge.specs.Cells.{Cells}
+use Rattle.judge.specs.WhiteLists.{AreShort, WhiteLists}
 use Rattle.judge.specs.Whites.{Adds, AreByArena, Clears, is_at, lies_in, names_or_none, whites_in}
 use Rattle.judge.specs.declared.whites.Whites.{Whites}
 
@@ -84,3 +88,44 @@ by_arena_more cells place names i d old new below next is = λ arena.
 pub by_arena_all : (cells : Cells) (names : List Name) (i : ℕ) (whites : Whites) → length names ≤ i
     → AreByArena cells (take i names) whites → AreByArena cells names whites
 by_arena_all cells names i whites le is = subst (λ xs. AreByArena cells xs whites) (take_all i names le) is
+
+-- one list is taken out, or written
+pub short_out : (old new : WhiteLists) (arena : ℕ) → tree.Updates nat_cmp old new arena None → AreShort old
+    → AreShort new
+short_out old new arena up short = λ a ns at. go a ns at (is_eq (nat_cmp arena a)) refl
+  where
+    go : (a : ℕ) (ns : List Name) → tree.get nat_cmp new a ≡ Some ns → (t : Bool) → is_eq (nat_cmp arena a) ≡ t
+        → length ns ≤ 64
+    go a ns at true e = (let none = up.0 a ∙ ap (λ b. cond b None (tree.get nat_cmp old a)) e in cc (none, at))
+    go a ns at false e = short a ns (sym (up.2 a e) ∙ at)
+
+pub short_in : (old new : WhiteLists) (arena : ℕ) (names : List Name)
+    → tree.Updates nat_cmp old new arena (Some names) → length names ≤ 64 → AreShort old → AreShort new
+short_in old new arena names up few short = λ a ns at. go a ns at (is_eq (nat_cmp arena a)) refl
+  where
+    go : (a : ℕ) (ns : List Name) → tree.get nat_cmp new a ≡ Some ns → (t : Bool) → is_eq (nat_cmp arena a) ≡ t
+        → length ns ≤ 64
+    go a ns at true e =
+        let is = up.0 a ∙ ap (λ b. cond b (Some names) (tree.get nat_cmp old a)) e in
+        let same : names ≡ ns = cc (is, at) in subst (λ xs. length xs ≤ 64) same few
+    go a ns at false e = short a ns (sym (up.2 a e) ∙ at)
+
+pub short_list : (o : Option (List Name)) → ((ns : List Name) → o ≡ Some ns → length ns ≤ 64)
+    → length (names_or_none o) ≤ 64
+short_list None short = omega arith
+short_list (Some ns) short = short ns refl
+
+-- the list of an arena is written, or it is not
+pub short_written : {X E : Type 0} (r : Result X E) (old new : WhiteLists) (arena : ℕ) (names : List Name)
+    → OnOk r (tree.Updates nat_cmp old new arena (Some names)) → OnErr r (tree.IsUnchanged old new)
+    → length names ≤ 64 → AreShort old → AreShort new
+short_written (Ok x) old new arena names up same few short = short_in old new arena names up few short
+short_written (Err e) old new arena names up same few short = λ a ns at.
+    short a ns (sym (ap (λ (es : List (ℕ × List Name)). lookup (tree.is_at (nat_cmp a)) es) same) ∙ at)
+
+-- a name more fits into the list of an arena
+pub short_more : (old : Whites) (arena : ℕ) (x : Name) (was names : List Name) → was ≡ whites_in old arena
+    → names ≡ was ++ x ∷ [] → length (whites_in old arena) < 64 → length names ≤ 64
+short_more old arena x was names is more room =
+    let sum = length-append was (x ∷ []) in let many = ap length more in let few = ap length is in
+    omega (arith, sum, many, few, room)

@@ -6,6 +6,7 @@ pub mod Walks
 pub mod Places
 pub mod Weak
 pub mod Cells
+pub mod WhiteLists
 pub mod Whites
 pub mod Slots
 pub mod Arenas

@@ -1,5 +1,5 @@
 -- Where the present cells lie.
-use Rattle.std.specs.Prelude.{◌≡◌, Some, None}
+use Rattle.std.specs.Prelude.{◌≡◌, ◌<◌, Some, None}
 use Rattle.std.specs.BTreeMap as tree
 use Rattle.std.specs.BTreeMap.{BTreeMap}
 use Rattle.std.specs.declared.cmp.Ordering.{Ordering}
@@ -26,3 +26,9 @@ pub record AreLaid (places : BTreeMap Name Place) (lying : Lying) : Type 0 where
       → (tree.get place_order lying p ≡ Some x → ⊥) → ⊥
   pub back : (x : Name) (p : Place) → tree.get place_order lying p ≡ Some x
       → (tree.get order_of places x ≡ Some p → ⊥) → ⊥
+
+-- no two cells have one place, and each has one of the slots of an arena
+pub record AreSpread (places : BTreeMap Name Place) : Type 0 where
+  pub apart : (x y : Name) (p : Place) → tree.get order_of places x ≡ Some p → tree.get order_of places y ≡ Some p
+      → (x ≡ y → ⊥) → ⊥
+  pub below : (x : Name) (p : Place) → tree.get order_of places x ≡ Some p → p.1 < 64

@@ -39,10 +39,13 @@ IsOpen owners flags z n = (slice_get owners n ≡ Some (Some z)) × (slice_get f
 abbrev pub IsFull : List (Option ℕ) → List Bool → Lying → ℕ → ℕ → Type 0
 IsFull owners flags lying z n = IsOpen owners flags z n → (s : ℕ) → s < 64 → IsEmpty lying (n, s) → ⊥
 
+-- this number of the first slots of an arena are taken
+abbrev pub IsTakenTo : Lying → ℕ → ℕ → Type 0
+IsTakenTo lying n k = (s : ℕ) → s < k → s < 64 → IsEmpty lying (n, s) → ⊥
+
 -- the slots are taken of which the arenas say so
 abbrev pub AreTaken : List ℕ → Lying → Type 0
-AreTaken takens lying =
-    (n s k : ℕ) → slice_get takens n ≡ Some k → s < k → s < 64 → IsEmpty lying (n, s) → ⊥
+AreTaken takens lying = (n k : ℕ) → slice_get takens n ≡ Some k → IsTakenTo lying n k
 
 -- for each zone, an arena below which each one is full
 abbrev pub AreFull : List (Option ℕ) → List Bool → List ℕ → Lying → Type 0
@@ -56,6 +59,7 @@ AreMade arenas lying = (p : Place) → length arenas ≤ p.0 → (IsEmpty lying 
 pub record AreKept (arenas : List Arena) (out lowest : List ℕ) (lying : Lying) : Type 0 where
   pub few : length arenas < 2 ^ 32
   pub made : AreMade arenas lying
+  pub below : (p : Place) → 64 ≤ p.1 → (IsEmpty lying p → ⊥) → ⊥
   pub flagged : AreFlagged (flags_of arenas) out
   pub taken : AreTaken (takens_of arenas) lying
   pub full : AreFull (owners_of arenas) (flags_of arenas) lowest lying

@@ -120,6 +120,7 @@ impl Arenas {
         ensures out { self.new.out.items ≡ self.old.out.items }
         ensures lying { self.new.lying ≡ self.old.lying }
         ensures made { IfOk result (λ p. p.0 < length self.new.arenas.items) }
+        ensures below { IfOk result (λ p. p.1 < 64) }
         ensures empty { IfOk result (IsEmpty self.new.lying) }
         ensures place { IfOk result (λ p. (w : World) → HasSlots self.old w
             → IsPlaceFor w zone p (owners_in self.new)) }
@@ -159,7 +160,8 @@ impl Arenas {
 
     /// A cell lies in a place from here on, in which none lay.
     pub fn occupy(&mut self, place: Place, name: Name) -> Result<(), NoMemory>
-        requires { place.0 < length self.old.arenas.items }
+        requires made { place.0 < length self.old.arenas.items }
+        requires below { place.1 < 64 }
         ensures same { AreSameArenas self.old self.new }
         ensures updates { OnOk result (Updates place_order self.old.lying self.new.lying place (Some name)) }
         ensures unchanged { OnErr result (IsUnchanged self.old.lying self.new.lying) }
@@ -196,9 +198,11 @@ impl Arenas {
 
     /// Whether a place is in an arena that is made, and no cell lies there.
     pub fn is_empty(&self, place: Place) -> bool
-        ensures { IsTrue result → (place.0 < length self.now.arenas.items) × IsEmpty self.now.lying place }
+        ensures { IsTrue result → (place.0 < length self.now.arenas.items) × (place.1 < 64)
+            × IsEmpty self.now.lying place }
     {
-        (place.arena() as usize) < self.arenas.len() && !self.lying.contains_key(&place)
+        let is_made = (place.arena() as usize) < self.arenas.len() && place.slot() < SLOT_COUNT;
+        is_made && !self.lying.contains_key(&place)
     }
 
     /// The numbers of the arenas that these zones own.

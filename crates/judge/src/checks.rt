@@ -1,6 +1,6 @@
 // The checks of reports, by the definitions: which report is due, and what is wrong with another one.
 ghost use Rattle.std.specs.Prelude.{◌≡◌, ◌≢◌, ◌↔◌, ℕ, [], ◌∷◌, IfNone, IfOk, IfSome, IsTrue, List, MatchOption};
-ghost use Rattle.std.specs.Prelude.{OnOk, codes, drop};
+ghost use Rattle.std.specs.Prelude.{◌≤◌, OnOk, codes, drop, length};
 ghost use Rattle.gz_names.specs.declared.names.Name.{Name as AName};
 ghost use Rattle.gz_names.specs.declared.zone_sets.ZoneSet.{ZoneSet as AZoneSet};
 ghost use Rattle.gz_names.specs.declared.replies.Report.TheVariants as the_report;
@@ -24,7 +24,7 @@ use crate::text::{is_same, report_text};
 use crate::world::{DueReport, Phase, World};
 use gz_names::{Name, NameList, Names64, NoMemory, Place, Report, ZoneSet};
 use plain_graph::Graph;
-use std::alloc::{AllocError, Global};
+use std::alloc::Global;
 use std::collections::BTreeMap;
 
 /// What is wrong with a line, as a text; None where nothing is.
@@ -164,25 +164,22 @@ fn told(world: &mut World, line: &[u8]) -> Result<Fault, NoMemory>
 }
 
 // The report of the lowest arena that is out.
-fn swept_report(world: &World, arena: u32) -> Result<Report, NoMemory>
-    ensures { IfOk result (λ report. report ≡ the_report.Swept arena (whites_in world.now.whites arena)) }
+fn swept_report(world: &World, arena: u32) -> Report
+    ensures { result ≡ the_report.Swept arena (whites_in world.now.whites arena) }
 {
-    let names = names_64(world.whites.of(arena))?;
-    Ok(Report::Swept(arena, names))
+    Report::Swept(arena, names_64(world.whites.of(arena)))
 }
 
-// The names of an arena's cells. An arena has 64 slots, so that there are no more.
-fn names_64(names: &[Name]) -> Result<Names64, NoMemory>
-    ensures { IfOk result (λ list. list ≡ names.now) }
+// The names of an arena's cells.
+fn names_64(names: &[Name]) -> Names64
+    requires { length names.now ≤ 64 }
+    ensures { result ≡ names.now }
 {
     let mut list = Names64::new();
     for name in names {
-        if list.len() >= 64 {
-            return Err(AllocError);
-        }
         list.push(*name);
     }
-    Ok(list)
+    list
 }
 
 fn swept(world: &mut World, arena: u32, line: &[u8]) -> Result<Fault, NoMemory>
@@ -193,7 +190,7 @@ fn swept(world: &mut World, arena: u32, line: &[u8]) -> Result<Fault, NoMemory>
     ensures wrong { IfOk result (λ fault. IfSome fault (λ _.
         line.now ≢ report_text (the_report.Swept arena (whites_in world.old.whites arena)))) }
 {
-    let report = swept_report(world, arena)?;
+    let report = swept_report(world, arena);
     let due = report_text(world.alloc, &report)?;
     if is_same(line, due.as_slice()) {
         world.sweep(arena)?;

@@ -4,7 +4,7 @@ ghost use Rattle.std.specs.Prelude.{OnOk, Some, drop, filter, map, reverse};
 ghost use Rattle.gz_names.specs.Zones.{zones_in};
 ghost use Rattle.gz_names.specs.declared.names.Name.{Name as AName};
 ghost use Rattle.gz_names.specs.declared.zone_sets.ZoneSet.{ZoneSet as AZoneSet};
-ghost use Rattle.colour_defs.specs.Ends.{Lists, arenas_from};
+ghost use Rattle.colour_defs.specs.Ends.{IsAscending, Lists, arenas_from};
 ghost use Rattle.colour_defs.specs.Graph.{GraphState, register_cell, slot_cell};
 ghost use Rattle.plain_graph.specs.Reach.{Follows, IsDone};
 ghost use Rattle.judge.specs.Arenas.{AreSameArenas, owners_in};
@@ -498,7 +498,8 @@ impl World {
 
     /// The first group that has not ended ends.
     pub fn end_group(&mut self, end: &GroupEnd) -> Result<(), NoMemory>
-        requires { IsFirstGroup (stage_of self.old.phase) end.now.zones }
+        requires first { IsFirstGroup (stage_of self.old.phase) end.now.zones }
+        requires ascending { IsAscending end.now.whites.items }
         ensures ends { OnOk result (Ends (stage_of self.old.phase) end.now.zones (stage_of self.new.phase)) }
         ensures owners { OnOk result (owners_in self.new.arenas ≡ owners_in self.old.arenas) }
         ensures out { OnOk result (reverse self.new.arenas.out.items

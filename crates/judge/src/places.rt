@@ -20,6 +20,7 @@ pub fn lay(
 ) -> Result<(), NoMemory>
     requires absent { get order_of places.old name ≡ None }
     requires made { place.0 < length arenas.old.arenas.items }
+    requires below { place.1 < 64 }
     requires empty { IsEmpty arenas.old.lying place }
     ensures arenas { AreSameArenas arenas.old arenas.new }
     ensures updates { OnOk result (Updates order_of places.old places.new name (Some place)) }

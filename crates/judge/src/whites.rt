@@ -1,6 +1,6 @@
 // The white cells of groups that have ended, until they are swept.
-ghost use Rattle.std.specs.Prelude.{◌≡◌, ℕ, [], IfOk, OnOk};
-ghost use Rattle.judge.specs.Whites.{Adds, AreByArena, Clears, whites_in};
+ghost use Rattle.std.specs.Prelude.{◌≡◌, ◌<◌, ◌≤◌, ℕ, [], IfOk, OnOk, Some, length};
+ghost use Rattle.judge.specs.WhiteLists.{AreShort};
 
 use gz_names::{Name, NameList, NoMemory, Place};
 use std::alloc::Global;
@@ -11,9 +11,15 @@ use std::collections::BTreeMap;
 pub struct Whites {
     alloc: Global,
     names: BTreeMap<u32, NameList>,
+    ghost short: { AreShort names },
 }
 
 impl Whites {
+    ghost use Rattle.gz_names.specs.declared.numbers.Place.{Place as APlace};
+    ghost use Rattle.colour_defs.specs.Ends.{IsAscending};
+    ghost use Rattle.judge.specs.Places.{AreSpread};
+    ghost use Rattle.judge.specs.Whites.{Adds, AreByArena, Clears, whites_in};
+
     pub fn new(alloc: Global) -> Self
         ensures { (arena : ℕ) → whites_in result arena ≡ [] }
     {
@@ -29,6 +35,8 @@ impl Whites {
         places: &BTreeMap<Name, Place>,
         names: &[Name],
     ) -> Result<Self, NoMemory>
+        requires spread { AreSpread places.now }
+        requires ascending { IsAscending names.now }
         ensures { IfOk result (AreByArena places.now names.now) }
     {
         let mut whites = Whites::new(alloc);
@@ -40,6 +48,7 @@ impl Whites {
 
     // A name more, if it has a place.
     fn add(&mut self, place: Option<Place>, name: Name) -> Result<(), NoMemory>
+        requires { (p : APlace) → place ≡ Some p → length (whites_in self.old p.0) < 64 }
         ensures { OnOk result (Adds self.old place name self.new) }
     {
         let Some(place) = place else {
@@ -54,7 +63,8 @@ impl Whites {
 
     /// Those of an arena.
     pub fn of(&self, arena: u32) -> &[Name]
-        ensures { result.now ≡ whites_in self.now arena }
+        ensures names { result.now ≡ whites_in self.now arena }
+        ensures few { length result.now ≤ 64 }
     {
         match self.names.get(&arena) {
             None => &[],

@@ -9,7 +9,7 @@ pub returns-then-is_same-clause-right : goal.returns-then-is_same-clause-right
 returns-then-is_same-clause-right c = (
   whites_in c.args.world.now.whites c.args.arena,
   c.is_same.ensures.0 c.if-is_same.true ∙ c.as_slice.ensures.value ∙ c.in_ok-due.ensures
-      ∙ ap report_text c.in_ok-report.ensures,
+      ∙ ap report_text c.swept_report-report.ensures,
   record {
     rest = c.requires.0;
     first = c.requires.1;

@@ -15,5 +15,6 @@ returns-in-Some-clause-laid c = λ laid.
 pub returns-in_default-clause-laid : goal.returns-in_default-clause-laid
 returns-in_default-clause-laid c = λ laid.
     laid_as c.args.places.now c.remove.new.self c.args.arenas.now.lying c.args.arenas.now.lying
-    (same_cells c.args.places.now c.remove.new.self (none_is c.remove.result c.in_default.is c.remove.ensures.unchanged))
+    (same_cells c.args.places.now c.remove.new.self
+    (none_is c.remove.result c.in_default.is c.remove.ensures.unchanged))
     (λ p. refl) laid

@@ -2,7 +2,7 @@ use Rattle.std.proofs.Common.{inl, inr, Option, Some, None, arith, refl, subst, 
 use Rattle.std.specs.Prelude.{IfNone, IfSome, SomeIff}
 use Rattle.gz_names.specs.declared.numbers.Place.{Place}
 use Rattle.judge.proofs.Owners.{same_owner}
-use Rattle.judge.proofs.Slots.{at_least, flags_same, kept_taken, open_at, taken_here}
+use Rattle.judge.proofs.Slots.{at_least, flags_same, kept_taken, open_at, table_of, taken_here}
 use Rattle.judge.proofs.arenas.Arenas.free_in.Goals as goal
 
 if_none : {P A : Type 0} (o : Option Place) (p : Place) → SomeIff o P p → ((P → ⊥) → A) → IfNone o A
@@ -16,13 +16,16 @@ if_some Q (Some q) p is f = subst Q (sym is.1) (f is.0)
 pub invariant_of-self : goal.invariant_of-self
 invariant_of-self c =
     let old = c.args.self.now in record {
-      kept = kept_taken old.arenas.items old.out.items old.lowest old.lying c.args.arena c.index_mut.result.now _
-          c.index_mut.ensures.value refl refl
-          (λ s less small e. elim (at_least s c.index.result.now.taken) [
-            | inl past ↦ c.first_empty-slot.ensures.taken s past less e
-            | inr before ↦ taken_here old.arenas.items old.lying c.args.arena c.index.result.now c.requires c.index.ensures
-                old.kept.taken s before small e
-          ]) old.kept;
+      kept = kept_taken (table_of old) (record {
+        number = c.args.arena;
+        was = c.index_mut.result.now;
+        now = record c.index_mut.result.now { taken = c.first_empty-slot.result };
+        at = c.index_mut.ensures.value;
+      }) refl refl (λ s less small e. elim (at_least s c.index.result.now.taken) [
+        | inl past ↦ c.first_empty-slot.ensures.taken s past less e
+        | inr before ↦ taken_here old.arenas.items old.lying c.args.arena c.index.result.now c.requires c.index.ensures
+            old.kept.taken s before small e
+      ]) old.kept;
     }
 
 pub returns-clause-same : goal.returns-clause-same

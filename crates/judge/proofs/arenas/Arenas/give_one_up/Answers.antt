@@ -1,8 +1,8 @@
-use Rattle.std.proofs.Common.{◌<◌, inr, length, refl, sym, arith}
+use Rattle.std.proofs.Common.{◌<◌, None, inr, length, refl, sym, arith}
 use Rattle.std.proofs.lemmas.List.{length-map}
 use Rattle.judge.specs.Arenas.{owners_in}
 use Rattle.judge.specs.Slots.{owner_of}
-use Rattle.judge.proofs.Slots.{kept_given}
+use Rattle.judge.proofs.Slots.{kept_given, table_of}
 use Rattle.judge.proofs.GivenUp.{given_elsewhere, given_set}
 use Rattle.judge.proofs.arenas.Arenas.give_one_up.Goals as goal
 
@@ -19,6 +19,10 @@ returns-in_default-clause-owners c =
 
 pub invariant_of-self : goal.invariant_of-self
 invariant_of-self c = record {
-  kept = kept_given c.args.self.now.arenas.items c.args.self.now.out.items c.args.self.now.lowest c.args.self.now.lying
-      c.args.number c.in-Some.arena.now _ c.in-Some.ensures.value refl refl refl c.args.self.now.kept;
+  kept = kept_given (table_of c.args.self.now) (record {
+    number = c.args.number;
+    was = c.in-Some.arena.now;
+    now = record c.in-Some.arena.now { owner = None };
+    at = c.in-Some.ensures.value;
+  }) refl refl refl c.args.self.now.kept;
 }

@@ -1,8 +1,8 @@
-use Rattle.std.proofs.Common.{◌∙◌, ap, refl, sym}
+use Rattle.std.proofs.Common.{◌∙◌, true, ap, refl, sym}
 use Rattle.std.proofs.Math.Seq.{map-set_same}
 use Rattle.judge.specs.Slots.{owner_of}
 use Rattle.judge.proofs.Owners.{goes_out, stays_in}
-use Rattle.judge.proofs.Slots.{kept_out}
+use Rattle.judge.proofs.Slots.{kept_out, table_of}
 use Rattle.judge.proofs.arenas.Arenas.hand_one_out.Goals as goal
 
 pub returns-then-not-is_of-clause-out : goal.returns-then-not-is_of-clause-out
@@ -33,7 +33,10 @@ returns-clause-owners c =
 
 pub invariant_of-self-2 : goal.invariant_of-self-2
 invariant_of-self-2 c = record {
-  kept = kept_out c.args.self.now.arenas.items c.args.self.now.out.items c.push.new.self.items c.args.self.now.lowest
-      c.args.self.now.lying c.args.number c.index_mut.result.now _ c.index_mut.ensures.value c.requires refl refl refl
-      c.in_ok-push.ensures.items c.args.self.now.kept;
+  kept = kept_out (table_of c.args.self.now) (record {
+    number = c.args.number;
+    was = c.index_mut.result.now;
+    now = record c.index_mut.result.now { is_out = true };
+    at = c.index_mut.ensures.value;
+  }) c.push.new.self.items c.requires refl refl refl c.in_ok-push.ensures.items c.args.self.now.kept;
 }

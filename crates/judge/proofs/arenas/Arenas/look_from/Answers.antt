@@ -1,26 +1,30 @@
 use Rattle.std.proofs.Common.{◌≡◌, ◌∙◌, ◌<◌, ◌≤◌, Some, ap, arith, get_or, length, refl, set, subst, sym}
 use Rattle.std.specs.Prelude.{slice_get}
-use Rattle.judge.specs.Slots.{AreKept, owners_of, takens_of}
-use Rattle.judge.specs.declared.arenas.Arena.{Arena}
+use Rattle.judge.specs.Slots.{owners_of, takens_of}
 use Rattle.judge.proofs.Owners.{same_owner}
-use Rattle.judge.proofs.Slots.{flags_same, kept_lowest, kept_taken, or_set_most, set_owner, set_taken, taken_here}
+use Rattle.judge.proofs.Slots.{IsKept, IsWritten, flags_same, kept_lowest, kept_taken, or_set_most, set_owner}
+use Rattle.judge.proofs.Slots.{set_taken, table_of, taken_here, written}
 use Rattle.judge.proofs.arenas.Arenas.look_from.Goals as goal
 
 pub invariant_of-self-in-Some-owner : goal.invariant_of-self-in-Some-owner
 invariant_of-self-in-Some-owner c =
     let old = c.args.self.now in
     let was = c.in-Some.arena.now in
-    let now : Arena = record was { taken = c.min-arena.result } in
     let low = c.min.ensures in
     let few = c.min-arena.ensures in
     let below : c.arena.result < length old.arenas.items =
     (let v = c.in-Some.ensures.variant.0 refl in omega (arith, v, old.arenas.ok)) in
-    let k : AreKept (set old.arenas.items c.arena.result now) old.out.items old.lowest old.lying =
-    kept_taken old.arenas.items old.out.items old.lowest old.lying c.arena.result was now c.in-Some.ensures.value
-    refl refl (λ s less small e. taken_here old.arenas.items old.lying c.arena.result was below
-    c.in-Some.ensures.value old.kept.taken s (omega (arith, less, few)) small e) old.kept in record {
-      kept = kept_lowest (set old.arenas.items c.arena.result now) old.out.items old.lowest old.lying
-          c.index-index.result c.min.result (λ n less. k.full c.index-index.result n (omega (arith, less, low))) k;
+    let w : IsWritten old.arenas.items = record {
+      number = c.arena.result;
+      was = was;
+      now = record was { taken = c.min-arena.result };
+      at = c.in-Some.ensures.value;
+    } in
+    let k : IsKept (record (table_of old) { arenas = written old.arenas.items w }) =
+    kept_taken (table_of old) w refl refl (λ s less. taken_here old.arenas.items old.lying c.arena.result was below
+    c.in-Some.ensures.value old.kept.taken s (omega (arith, less, few))) old.kept in record {
+      kept = kept_lowest (record (table_of old) { arenas = written old.arenas.items w }) c.index-index.result
+          c.min.result (λ n less. k.full c.index-index.result n (omega (arith, less, low))) k;
     }
 
 pub invariant_of-self-in_default-owner : goal.invariant_of-self-in_default-owner
@@ -30,9 +34,13 @@ invariant_of-self-in_default-owner c =
     let few = c.min-arena.ensures in
     let below : c.arena.result < length old.arenas.items =
     (let v = c.in-Some.ensures.variant.0 refl in omega (arith, v, old.arenas.ok)) in record {
-      kept = kept_taken old.arenas.items old.out.items old.lowest old.lying c.arena.result was _ c.in-Some.ensures.value
-          refl refl (λ s less small e. taken_here old.arenas.items old.lying c.arena.result was below
-          c.in-Some.ensures.value old.kept.taken s (omega (arith, less, few)) small e) old.kept;
+      kept = kept_taken (table_of old) (record {
+        number = c.arena.result;
+        was = was;
+        now = record was { taken = c.min-arena.result };
+        at = c.in-Some.ensures.value;
+      }) refl refl (λ s less. taken_here old.arenas.items old.lying c.arena.result was below
+          c.in-Some.ensures.value old.kept.taken s (omega (arith, less, few))) old.kept;
     }
 
 pub returns-in-Some-owner-clause-same : goal.returns-in-Some-owner-clause-same

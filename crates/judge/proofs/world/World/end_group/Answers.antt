@@ -14,6 +14,7 @@ use Rattle.judge.specs.declared.former.Former.{Former}
 use Rattle.judge.specs.declared.weak.WeakNames.{WeakNames}
 use Rattle.judge.specs.declared.whites.Whites.{Whites}
 use Rattle.judge.specs.declared.world.World.{World}
+use Rattle.judge.proofs.NewCells.{spread_of}
 use Rattle.judge.proofs.Results.{on_ok_known}
 use Rattle.judge.proofs.Watching.{unwatched_as}
 use Rattle.judge.proofs.world.World.end_group.Goals as goal
@@ -101,3 +102,6 @@ returns-clause-told c =
     on_ok_known c.settle.result (told ∙ c.in_ok-self-2.ensures.told
     ∙ ap (λ (ns : List Name). filter (is_watched c.let_go.new.self.weak) ns) c.as_slice-3.ensures.value
     ∙ ap (λ (w : WeakNames). filter (is_watched w) c.args.end.now.whites.items) c.let_go.ensures.weak)
+
+pub of_names-requires-clause-spread : goal.of_names-requires-clause-spread
+of_names-requires-clause-spread c = spread_of c.args.self.now.places c.args.self.now.arenas c.args.self.now.laid
