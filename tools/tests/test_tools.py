@@ -212,6 +212,7 @@ class WrongWords(Tools):
         self.check_refuses([["after-edit", "--since", "frobnicate"]], "frobnicate")
         self.check_refuses([["prove", "frobnicate"]], "frobnicate is no crate of crates.txt")
         self.check_refuses([["build-unproved", "frobnicate"]], "frobnicate is no program of this repository")
+        self.check_refuses([["wrong-bodies", "frobnicate"]], "frobnicate is no crate in examples/wrong_bodies")
         self.check_refuses([["test", "frobnicate"]], "no check is named frobnicate: see --list")
         benches = ("speed", "helpers", "markers", "dumps", "engines", "lines")
         calls = [[f"../bench/{name}.py", "--only", "frobnicate"] for name in benches]

@@ -117,6 +117,13 @@ class WrongBodies(unittest.TestCase):
             self.assertTrue(error.startswith(f"wrong-bodies: {word} is no crate in examples/wrong_bodies"), error)
         self.assertFalse((self.top / "words").exists())
 
+    def test_without_edits(self):
+        shutil.rmtree(self.top / "examples")
+        status, lines, error = self.run_tool()
+        self.assertEqual((status, lines), (1, []))
+        self.assertTrue(error.startswith("wrong-bodies: there is no edit in "), error)
+        self.assertFalse((self.top / "words").exists())
+
     def test_without_rt(self):
         status, lines, error = self.run_tool(path="/nowhere")
         self.assertEqual((status, lines), (1, []))
