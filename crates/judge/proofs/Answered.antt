@@ -22,7 +22,8 @@ use Rattle.judge.proofs.LineKinds.{not_collected, not_slice}
 use Rattle.judge.proofs.Reported.{first_of, lines_first, reported, told_of}
 use Rattle.judge.proofs.Reweak.{represents_told}
 use Rattle.judge.proofs.Spending.{represents_spent, spent_in}
-use Rattle.judge.proofs.UnitsLeft.{DoneNext, LastNext, NextLeft, ReportNext, done_next, last_next, next_left, report_next}
+use Rattle.judge.proofs.UnitsLeft.{DoneNext, LastNext, NextLeft, ReportNext, done_next, last_next, next_left}
+use Rattle.judge.proofs.UnitsLeft.{report_next}
 
 -- a list that goes on as another one
 pub head_is : {X : Type 0} (x y : X) (xs ys : List X) → x ∷ xs ≡ y ∷ ys → x ≡ y
@@ -120,7 +121,8 @@ module _ (g : GraphState) (old new : Shown) (most : Option ℕ) (collects : Bool
   done_step more none d (inl (mine, e, judged, untold)) counts =
       let all = left_next none ∙ d.lines_are in
       let text : line ≡ report_text report.Done = head_is line _ lines d.rest all in
-      let after = reported g old new is.now d.after is.stands sound none report.Done mine (sym text ∙ e) d.finishes judged
+      let after = reported g old new is.now d.after is.stands sound none report.Done mine
+          (sym text ∙ e) d.finishes judged
       in record {
         now = d.after;
         stands = after.stands;
@@ -240,7 +242,8 @@ module _ (g : GraphState) (old new : Shown) (most : Option ℕ) (collects : Bool
       by_next (last_untold most collects reports old new line last)
       (next_left is.now most collects is.tally is.so_far is.done is.left is.rest)
     where
-      by_next : old.told ≡ [] → NextLeft is.now most collects is.tally is.so_far is.done is.left → IsBefore g new [] lines
+      by_next : old.told ≡ [] → NextLeft is.now most collects is.tally is.so_far is.done is.left
+          → IsBefore g new [] lines
       by_next none (done_next d) =
           absurd (no_last none report.Done (head_is line _ lines d.rest (left_next none ∙ d.lines_are)) last)
       by_next none (report_next r) = absurd (no_last none (base_of r.said)

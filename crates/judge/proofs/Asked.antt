@@ -28,7 +28,8 @@ use Rattle.judge.specs.Replies.{reply as reply_due}
 use Rattle.judge.specs.Represents.{Represents}
 use Rattle.judge.specs.Sound.{IsSound}
 use Rattle.judge.specs.Stages.{Shown, TakesNamed}
-use Rattle.judge.specs.Transcripts.{Answer, HasSmallNumber, IsLawfulFrom, lines_of_answer, lines_of_reply, lines_of_reports}
+use Rattle.judge.specs.Transcripts.{Answer, HasSmallNumber, IsLawfulFrom, lines_of_answer, lines_of_reply}
+use Rattle.judge.specs.Transcripts.{lines_of_reports}
 use Rattle.judge.specs.Weak.{weak_slot}
 use Rattle.judge.proofs.Commanded.{represents_command}
 use Rattle.judge.proofs.Derefs.{represents_deref}
@@ -102,7 +103,8 @@ module _ (old new : Shown) (w v : World) (answer : Answer) (more : List (List â„
   asked_graph c next asks sound =
       let obeys = asks.1 in
       let then = represents_command c answer.1 old new w v between.stands obeys
-      (places_new (change.Command c) (step_of w.graph c).0 (wakes w.graph c) (wakes_also w.graph c) old new obeys.changes)
+      (places_new (change.Command c) (step_of w.graph c).0 (wakes w.graph c)
+          (wakes_also w.graph c) old new obeys.changes)
       next.lawful.1 in
       let laws = laws_then (command.Graph c) (step_of w.graph c).0 next then.graph_is (command_sizes w.graph c) in
       subst (Î» d. AreLeft (step_of w.graph c).0 new d (lines_of_answer answer ++ more)) (sym asks.0)

@@ -75,7 +75,8 @@ module _ (g : GraphState) (zones : ZoneSet) (old new : Shown) (w v : World) (ans
   stands = between.stands.represents
 
   -- the zones are being prepared then
-  begun_stands : (b : Due) → (old.stage ≡ idle) × AreMade g zones × (due ≡ b) × LeavesOut g (zones_in zones) old.cells old.black.names new.left_out
+  begun_stands : (b : Due) → (old.stage ≡ idle) × AreMade g zones × (due ≡ b)
+      × LeavesOut g (zones_in zones) old.cells old.black.names new.left_out
       × (new ≡ record old {
         stage = preparing zones;
         left_out = new.left_out;
@@ -164,7 +165,8 @@ module _ (g : GraphState) (zones : ZoneSet) (old new : Shown) (w v : World) (ans
   ]
 
 -- a compaction
-module _ (g : GraphState) (zone : ℕ) (old new : Shown) (w v : World) (answer : Answer) (more : List (List ℕ)) (due : Due)
+module _ (g : GraphState) (zone : ℕ) (old new : Shown) (w v : World) (answer : Answer) (more : List (List ℕ))
+    (due : Due)
     (between : StandsBetween g old w) (sound : IsSound g new) where
   zone_in_world : zone < g.zones → (z : ℕ) → Contains (zone ∷ []) z → z < w.graph.zones
   zone_in_world made z c = elim (contains_cases zone [] z c) [
@@ -206,7 +208,8 @@ module _ (g : GraphState) (zone : ℕ) (old new : Shown) (w v : World) (answer :
         next.goes_on)
   ]
   asked_compact next (inr (rest, made, moved, given, is, packs)) = elim next.lawful [
-    | inl h ↦ (let counts = same_counts g zone moved given h.0 h.1 old new w v between.stands.represents rest packs h.4 in
+    | inl h ↦ (let counts = same_counts g zone moved given h.0 h.1 old new w v between.stands.represents rest packs h.4
+        in
         let laws = between.stands.laws in
         let valid = answer_valid w (command.Compact zone) answer.0 answer.1 v laws.valid (inl h) in
         let live = answer_live w (command.Compact zone) answer.0 answer.1 v laws.valid laws.live (inl h) in

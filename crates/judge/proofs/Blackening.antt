@@ -8,7 +8,8 @@ use Rattle.gz_names.specs.declared.zone_sets.ZoneSet.{ZoneSet}
 use Rattle.colour_defs.specs.Closure.{Closure, ClosureWithin, within_edge, within_key, within_start, within_value}
 use Rattle.colour_defs.specs.Graph.{GraphState, IsInZones}
 use Rattle.colour_defs.specs.Laws.{IsValid, IsValidPreparing}
-use Rattle.colour_defs.specs.World.{Has, IsLeftOut, IsPresent, IsSettled as HasSettled, Preparation, WakesLeftOut, World}
+use Rattle.colour_defs.specs.World.{Has, IsLeftOut, IsPresent, IsSettled as HasSettled, Preparation, WakesLeftOut}
+use Rattle.colour_defs.specs.World.{World}
 use Rattle.colour_defs.proofs.Effects.{Waking}
 use Rattle.colour_defs.proofs.Follows.{Follows}
 use Rattle.plain_graph.specs.Reach.{IsDone, WalkState}
@@ -25,7 +26,8 @@ present_followed w ok =
     record { edges = ok.presence.edges; values = ok.presence.entries; keys = ok.presence.keys }
 
 -- what is reached within a set from what is present is present
-pub present_within : (w : World) (I S : Name → Type 0) → IsValid w → ((x : Name) → S x → I x → IsPresent w x) → {x : Name}
+pub present_within : (w : World) (I S : Name → Type 0) → IsValid w → ((x : Name) → S x → I x → IsPresent w x)
+    → {x : Name}
     → ClosureWithin w.graph I S x → ClosureWithin w.graph (λ y. IsPresent w y × I y) S x × IsPresent w x
 present_within w I S ok there (within_start s i) = let p = there _ s i in (within_start s (p, i), p)
 present_within w I S ok there (within_edge r e i) =

@@ -43,7 +43,8 @@ pub waked_is : (x : Name) (f : Collection → Tally) (o : Option Collection)
 waked_is x f None = refl
 waked_is x f (Some k) = refl
 
-module _ (k : Change) (h : GraphState) (x also : Option Name) (f : Collection → Tally) (g : GraphState) (old new : Shown)
+module _ (k : Change) (h : GraphState) (x also : Option Name) (f : Collection → Tally) (g : GraphState)
+    (old new : Shown)
     (w v : World) (c : IsChange k h x also f g old new w v) where
   stands : Represents g old w
   stands = c.stands.represents

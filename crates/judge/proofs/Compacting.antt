@@ -17,7 +17,7 @@ module _ (g : GraphState) (zone moved given m n : ℕ) (old new : Shown) (w v : 
   lies = let p = packs.lawful w (idle_lies stands idle_is) in
       subst (λ z. Lies g new z) (determined_world w zone p.0 v moved given m n p.1 lawful) p.2
 
-  -- the same numbers are reported
+  -- both report equal numbers
   pub same_counts : (m ≡ moved) × (n ≡ given)
   same_counts = packs.only w v m n (idle_lies stands idle_is) lawful
 

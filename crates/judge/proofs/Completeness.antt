@@ -1,4 +1,5 @@
--- A line that the judge finds wrong is one with which no lawful transcript begins that goes on as the lines before it do.
+-- A line that the judge finds wrong is one with which no lawful transcript begins that goes on as the lines before it
+-- do.
 use Rattle.std.proofs.Common.{◌≡◌, ◌∙◌, inl, inr, ℕ, ◌+◌, List, [], ◌∷◌, ◌++◌, length, refl, sym, ap, subst}
 use Rattle.std.proofs.Common.{append_assoc}
 use Rattle.gz_io.specs.Lines.{EndsLine}
@@ -85,7 +86,8 @@ pub wrong_none : (g : GraphState) (s : Shown) (due : Due) (line : List ℕ) (lin
     → ((more : List (List ℕ)) → IsLawful (lines ++ more) → AreLeft g s due more) → IsWrongLine g s due line
     → IsNoStart (lines ++ line ∷ [])
 wrong_none g s due line lines left wrong more lawful =
-    left_right g s due line more (left (line ∷ more) (subst IsLawful (append_assoc lines (line ∷ []) more) lawful)) wrong
+    left_right g s due line more (left (line ∷ more)
+        (subst IsLawful (append_assoc lines (line ∷ []) more) lawful)) wrong
 
 bad_left : (g : GraphState) (s : Shown) (due : Due) (line : List ℕ) (more : List (List ℕ))
     → AreLeft g s due (line ∷ more) → IsBadLine line → ⊥

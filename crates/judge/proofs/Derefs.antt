@@ -57,6 +57,7 @@ module _ (r q : ℕ) (a : Reply) (old new : Shown) (w v : World) (stands : Stand
             read_as w.graph (weak_cell w q) old w old.stage stands.represents.stage_is k is same ∙ sym taken.tally_is;
         uncounted = λ none.
             taken.tally_is ∙ read_none w.graph (weak_cell w q) old w old.stage stands.represents.stage_is none;
-        accepts = subst (λ o. AcceptsIn w.preparing w o (with_register w.graph r (weak_cell w q)) (weak_cell w q) None v)
+        accepts = subst (λ o. AcceptsIn w.preparing w o (with_register w.graph r (weak_cell w q))
+            (weak_cell w q) None v)
             (read_is w.graph (weak_cell w q) w.collection) lawful.1;
       })

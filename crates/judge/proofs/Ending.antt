@@ -132,7 +132,8 @@ module _ (g : GraphState) (group : ZoneSet) (judged grays told : List Name) (old
   white_as x = (
     λ h. (
       (present_is stands.represents x).0 h.present,
-      ((in_group x).0 h.here, λ live. white_is_not_live w running.collection (zones_in group) x h ((found.live_are x).1 live)),
+      ((in_group x).0 h.here, λ live. white_is_not_live w running.collection (zones_in group) x h
+          ((found.live_are x).1 live)),
     ),
     λ h. white_of w running.collection (zones_in group) x ((present_is stands.represents x).1 h.0)
         ((in_group x).1 h.1.0) (λ live. h.1.1 ((found.live_are x).0 live))
@@ -194,7 +195,8 @@ module _ (g : GraphState) (group : ZoneSet) (judged grays told : List Name) (old
 
   named_all : (os : List (Option Name)) → map (if_there v) os ≡ map (if_present new.cells) os
   named_all [] = refl
-  named_all (o ∷ os) = ap (λ p. p ∷ map (if_there v) os) (named o) ∙ ap (λ ps. if_present new.cells o ∷ ps) (named_all os)
+  named_all (o ∷ os) = ap (λ p. p ∷ map (if_there v) os) (named o) ∙ ap (λ ps. if_present new.cells o ∷ ps)
+      (named_all os)
 
   slots : v.weak.slots ≡ new.weak.slots
   slots = lawful.loses.slots_are ∙ ap (λ os. map (if_there v) os) stands.represents.slots_are
@@ -239,7 +241,8 @@ module _ (g : GraphState) (group : ZoneSet) (judged grays told : List Name) (old
       (record { ascending = ends.loses.told_are.ascending; has = λ x. (λ c. c, λ c. c) })
 
   pub same_grays : grays ≡ judged
-  same_grays = one_list (λ x. HasCell old.cells x × IsGray g (zones_in group) old.former.graph ends.walks x) grays judged
+  same_grays = one_list (λ x. HasCell old.cells x
+      × IsGray g (zones_in group) old.former.graph ends.walks x) grays judged
       (lists_as (IsGrayOf w running.collection (zones_in group))
       (λ x. HasCell old.cells x × IsGray g (zones_in group) old.former.graph ends.walks x) grays
       (λ x h. (gray_as x).0 h) (λ x h. (gray_as x).1 h) at_end.grays_are) ends.colours.grays_are

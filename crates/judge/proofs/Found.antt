@@ -22,7 +22,8 @@ use Rattle.judge.specs.declared.collection.GroupEnd.{GroupEnd}
 use Rattle.judge.specs.declared.whites.Whites.{Whites}
 
 -- what is reached from names that are reached
-pub reached_from : (g : GraphState) (P Q : Name → Type 0) → ((x : Name) → P x → Closure g Q x) → {x : Name} → Closure g P x
+pub reached_from : (g : GraphState) (P Q : Name → Type 0) → ((x : Name) → P x → Closure g Q x) → {x : Name}
+    → Closure g P x
     → Closure g Q x
 reached_from g P Q h (from s) = h _ s
 reached_from g P Q h (along r e) = along (reached_from g P Q h r) e

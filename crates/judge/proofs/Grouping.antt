@@ -128,7 +128,8 @@ module _ (g : GraphState) (groups : List ZoneSet) (gs : List (List ℕ)) (old ne
     watched_are = λ x. subst (λ (z : World). Has z.weak.watched x ↔ IsWatched old.weak x) (sym lawful.world_is)
         (stands.represents.watched_are x);
     black_are = λ still.
-        let b = stands.represents.black_are (subst Rattle.judge.specs.Stages.IsSettled (sym forms.was) still) in record {
+        let b = stands.represents.black_are (subst Rattle.judge.specs.Stages.IsSettled (sym forms.was) still) in record
+            {
           within = b.within;
           names_are = λ x. subst (λ (z : World). Has z.black x ↔ Contains old.black.names x) (sym lawful.world_is)
               (b.names_are x);

@@ -1,6 +1,8 @@
 -- Bytes have the lines of a lawful transcript just where they are its text.
-use Rattle.std.proofs.Common.{◌≡◌, ◌≢◌, ◌∙◌, ◌⊎◌, inl, inr, ℕ, zero, suc, ◌+◌, ◌<◌, ◌≤◌, ◌/◌, ◌%◌, Bool, true, false, List, []}
-use Rattle.std.proofs.Common.{◌∷◌, ◌++◌, append_assoc, cond, length, map, Option, None, Some, refl, sym, ap, subst, arith}
+use Rattle.std.proofs.Common.{◌≡◌, ◌≢◌, ◌∙◌, ◌⊎◌, inl, inr, ℕ, zero, suc, ◌+◌, ◌<◌, ◌≤◌, ◌/◌, ◌%◌, Bool, true, false}
+use Rattle.std.proofs.Common.{List, []}
+use Rattle.std.proofs.Common.{◌∷◌, ◌++◌, append_assoc, cond, length, map, Option, None, Some, refl, sym, ap, subst}
+use Rattle.std.proofs.Common.{arith}
 use Rattle.std.specs.Prelude.{codes, ◌==◌, ⊤}
 use Rattle.std.specs.FinSet as set
 use Rattle.gz_names.specs.Zones.{zones_in}
@@ -31,14 +33,16 @@ use Rattle.trace_lang.specs.Texts.{line_of, name_words, reply_text, report_text}
 use Rattle.trace_lang.proofs.Fine.{spells_fine}
 use Rattle.judge.specs.Lines.{IsOneLine}
 use Rattle.judge.specs.Replies.{marked}
-use Rattle.judge.specs.Transcripts.{Answer, HasLawfulLines, HasLines, IsLawfulFrom, IsLawfulInput, IsLawfulRun, StandForAll}
+use Rattle.judge.specs.Transcripts.{Answer, HasLawfulLines, HasLines, IsLawfulFrom, IsLawfulInput, IsLawfulRun}
+use Rattle.judge.specs.Transcripts.{StandForAll}
 use Rattle.judge.specs.Transcripts.{dump_line, lines_of_answer, lines_of_reply, lines_of_report, lines_of_reports}
 use Rattle.judge.specs.Transcripts.{IsText, answer_lines, told_lines, transcript, transcript_text}
 use Rattle.judge.proofs.LineTexts.{AreOneLines, EndsFull, IsNotEmpty, answer_flat, flat, flat_both, lines_of_cut}
 use Rattle.judge.proofs.LineTexts.{lines_of_text, one_lines_both, text_of_lines}
 use Rattle.judge.proofs.Listing.{never_empty}
 use Rattle.judge.proofs.OneReply.{named_one, step_one}
-use Rattle.judge.proofs.PlainTexts.{IsNoDump, done_plain, ended_plain, groups_line_plain, line_plain, one_line, reply_plain}
+use Rattle.judge.proofs.PlainTexts.{IsNoDump, done_plain, ended_plain, groups_line_plain, line_plain, one_line}
+use Rattle.judge.proofs.PlainTexts.{reply_plain}
 use Rattle.judge.proofs.PlainTexts.{started_plain, stopped_plain, swept_plain, told_plain}
 
 -- a lawful answer is no empty dump
@@ -102,7 +106,8 @@ answer_some w (command.Compact zone) reports a v (inr h) e = refuses_some w (zon
 -- the last line of an answer is not empty
 digits_some : (k n : ℕ) (acc : List ℕ) → 0 < length acc → 0 < length (digits_onto k 10 false n acc)
 digits_some zero n acc some = some
-digits_some (suc k) n acc some = go (digits_some k (n / 10) (digit_glyph false (n % 10) ∷ acc) (omega arith)) (n / 10 == 0)
+digits_some (suc k) n acc some = go (digits_some k (n / 10) (digit_glyph false (n % 10) ∷ acc) (omega arith))
+    (n / 10 == 0)
   where
     go : 0 < length (digits_onto k 10 false (n / 10) (digit_glyph false (n % 10) ∷ acc)) → (b : Bool)
         → 0 < length (cond b (digit_glyph false (n % 10) ∷ acc)
@@ -223,7 +228,8 @@ report_one report.Started = (one_line (report_text report.Started) started_plain
 report_one (report.Groups groups) = (one_line (report_text (report.Groups groups)) (groups_line_plain groups), tt)
 report_one (report.Ended zones grays told) =
     (one_line (report_text (report.Ended zones grays [])) (ended_plain zones grays), told_one told)
-report_one (report.Swept arena freed) = (one_line (report_text (report.Swept arena freed)) (swept_plain arena freed), tt)
+report_one (report.Swept arena freed) = (one_line (report_text (report.Swept arena freed))
+    (swept_plain arena freed), tt)
 report_one report.Done = (one_line (report_text report.Done) done_plain, tt)
 report_one (report.Stopped zones) = (one_line (report_text (report.Stopped zones)) (stopped_plain zones), tt)
 
@@ -280,7 +286,8 @@ run_text w (t ∷ ts) (a ∷ answers) (c ∷ cs) v stand (u, first, rest) =
       text = ap (λ x. line_of (marked t) ++ x)
           (flat_both (lines_of_answer a) (transcript ts answers)
           ∙ (λ i. answer_flat a some i ++ more.text i));
-      one = (marked_one t c stand.0, one_lines_both (lines_of_answer a) (transcript ts answers) (answer_one a) more.one);
+      one = (marked_one t c stand.0, one_lines_both (lines_of_answer a) (transcript ts answers)
+          (answer_one a) more.one);
       full = full_both (marked t ∷ []) (lines_of_answer a ++ transcript ts answers)
           (λ e. whole.0 (first_none (lines_of_answer a) (transcript ts answers) e))
           (end_full (lines_of_answer a) (transcript ts answers) whole.1 more.full);

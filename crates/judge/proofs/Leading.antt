@@ -85,7 +85,8 @@ lawful_next w line lines is = go is.trace is.answers is.lawful.commands is.lawfu
 module _ (old new : Shown) (w v : World) (answer : Answer) (more : List (List ℕ)) (due : Due) (text : List ℕ)
     (between : StandsBetween w.graph old w) where
   asked : (c : Cmd) → Spells text c → ComesNext w c answer v more → Asks w.graph old c due new
-      → IsSound (graph_after w.graph old c) new → AreLeft (graph_after w.graph old c) new due (lines_of_answer answer ++ more)
+      → IsSound (graph_after w.graph old c) new
+          → AreLeft (graph_after w.graph old c) new due (lines_of_answer answer ++ more)
   asked (command.Graph c) spells next asks sound = asked_graph old new w v answer more due between c next asks sound
   asked (command.Weak c) spells next asks sound = asked_weak old new w v answer more due between c next asks sound
   asked (command.Gc zones) spells next asks sound = asked_gc w.graph zones old new w v answer more due between
@@ -94,8 +95,10 @@ module _ (old new : Shown) (w v : World) (answer : Answer) (more : List (List �
       (spelled_zones text (command.Collect zones) zones spells (inr refl)).1 sound next asks
   asked (command.Slice n) spells next asks sound =
       asked_slice w.graph old new w v answer more due between n next asks.0 asks.1
-  asked command.Finish spells next asks sound = asked_finish w.graph old new w v answer more due between next asks.0 asks.1
-  asked command.Reset spells next asks sound = asked_reset w.graph old new w v answer more due between next asks.0 asks.1
+  asked command.Finish spells next asks sound = asked_finish w.graph old new w v answer more due between next asks.0
+      asks.1
+  asked command.Reset spells next asks sound = asked_reset w.graph old new w v answer more due between next asks.0
+      asks.1
   asked command.Colours spells next asks sound =
       asked_colours w.graph old new w v answer more due between next asks.0 asks.1
   asked command.Dump spells next asks sound = asked_dump w.graph old new w v answer more due between next asks.0 asks.1
@@ -117,7 +120,8 @@ left_steps g h old new due next line lines left (inl (text, c, whole, is, read, 
     (subst (λ a. StandsBetween a old before.world → Asks a old c next new → IsSound (graph_after a old c) new
     → AreLeft (graph_after a old c) new next (lines_of_answer goes.answer ++ goes.more))
     before.stands.stands.represents.graph_is
-    (λ b a s. asked old new before.world goes.after goes.answer goes.more next text b c read.0 comes a s) before.stands asks
+    (λ b a s. asked old new before.world goes.after goes.answer goes.more next text b c read.0 comes a s) before.stands
+        asks
     (subst (λ k. IsSound k new) after sound)))
 left_steps g h old new due next line lines left (inr (unmarked, same, answered)) sound =
     subst (λ k. AreLeft k new next lines) (sym same)
@@ -126,7 +130,8 @@ left_steps g h old new due next line lines left (inr (unmarked, same, answered))
     go : (d : Due) → AreLeft g old d (line ∷ lines) → IsAnswered g old d line new next → IsSound g new
         → AreLeft g new next lines
     go nothing l a s = absurd a
-    go (reply_due text) l a s = subst (λ d. AreLeft g new d lines) (sym a.1) (answered_reply g old new text line lines l a.2)
+    go (reply_due text) l a s = subst (λ d. AreLeft g new d lines) (sym a.1)
+        (answered_reply g old new text line lines l a.2)
     go (dump []) l a s = absurd l
     go (dump (d ∷ ds)) l a s = answered_dump g old new (d ∷ ds) line lines next l a.0 a.1
     go (units_due most collects reports) l a s =

@@ -1,5 +1,6 @@
 -- The lines of a lawful transcript, and its bytes.
-use Rattle.std.proofs.Common.{◌≡◌, ◌≢◌, ◌∙◌, ◌⊎◌, inl, inr, ℕ, zero, suc, ◌+◌, ◌<◌, ◌/◌, ◌%◌, Bool, true, false, List, []}
+use Rattle.std.proofs.Common.{◌≡◌, ◌≢◌, ◌∙◌, ◌⊎◌, inl, inr, ℕ, zero, suc, ◌+◌, ◌<◌, ◌/◌, ◌%◌, Bool, true, false, List}
+use Rattle.std.proofs.Common.{[]}
 use Rattle.std.proofs.Common.{◌∷◌, ◌++◌, Contains, append_assoc, cond, length, map, refl, sym, ap, subst, arith}
 use Rattle.std.specs.Prelude.{codes, ◌==◌, ⊤}
 use Rattle.std.specs.Fmt.{decimal, digit_glyph, digits, digits_onto}
@@ -17,7 +18,8 @@ use Rattle.gz_names.specs.declared.replies.Report.TheVariants as report
 use Rattle.gz_names.specs.declared.replies.Reply.{Reply}
 use Rattle.gz_names.specs.declared.replies.Reply.TheVariants as reply
 use Rattle.gz_names.specs.DumpTexts.{dump_text}
-use Rattle.trace_lang.specs.Texts.{break_text, dump_lines_text, line_of, name_words, names_text, reply_text, report_text}
+use Rattle.trace_lang.specs.Texts.{break_text, dump_lines_text, line_of, name_words, names_text, reply_text}
+use Rattle.trace_lang.specs.Texts.{report_text}
 use Rattle.trace_lang.specs.Texts.{told_text}
 use Rattle.trace_lang.specs.Words.{number_words}
 use Rattle.judge.specs.Lines.{IsOneLine}
@@ -143,7 +145,8 @@ dump_rest n (l ∷ ls) =
     ∙ sym (line_more (dump_text l) (flat (map dump_line ls)))
     ∙ ap (λ t. line_of t ++ flat (map dump_line ls)) (sym (dump_one l)))
 
-dump_flat : (l : DumpLine) (ls : List DumpLine) → flat (map dump_line (l ∷ ls)) ≡ line_of (reply_text (reply.Dump (l ∷ ls)))
+dump_flat : (l : DumpLine) (ls : List DumpLine)
+    → flat (map dump_line (l ∷ ls)) ≡ line_of (reply_text (reply.Dump (l ∷ ls)))
 dump_flat l ls =
     ap (λ t. line_of t ++ flat (map dump_line ls)) (dump_one l)
     ∙ line_more (dump_text l) (flat (map dump_line ls))

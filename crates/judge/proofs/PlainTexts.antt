@@ -52,7 +52,8 @@ plain_by (b ∷ bs) e = go (λ h. plain_by bs h) (b == 10) (b == 62) refl refl e
 glyph_plain : (d : ℕ) → (digit_glyph false d ≢ 10) × (digit_glyph false d ≢ 62)
 glyph_plain d = go (nat_lt d 10) refl
   where
-    go : (b : Bool) → nat_lt d 10 ≡ b → ((if b then 48 + d else (87 + d)) ≢ 10) × ((if b then 48 + d else (87 + d)) ≢ 62)
+    go : (b : Bool) → nat_lt d 10 ≡ b → ((if b then 48 + d else (87 + d)) ≢ 10)
+        × ((if b then 48 + d else (87 + d)) ≢ 62)
     go true e = (λ h. omega (arith, h), λ h. omega (arith, h, ltb-true d 10 e))
     go false e = (λ h. omega (arith, h), λ h. omega (arith, h))
 
@@ -140,10 +141,12 @@ abbrev pub IsNoDump : Reply → Type 0
 IsNoDump r = (lines : List DumpLine) → r ≡ reply.Dump lines → ⊥
 
 pub reply_plain : (r : Reply) → IsNoDump r → ArePlain (reply_text r)
-reply_plain (reply.Zone z) none = plain_both (codes "zone ") (decimal z) (plain_by (codes "zone ") refl) (decimal_plain z)
+reply_plain (reply.Zone z) none = plain_both (codes "zone ") (decimal z) (plain_by (codes "zone ") refl)
+    (decimal_plain z)
 reply_plain (reply.Comp c) none =
     plain_both (codes "comp ") (decimal c.0) (plain_by (codes "comp ") refl) (decimal_plain c.0)
-reply_plain (reply.Made n) none = plain_both (codes "cell ") (decimal n) (plain_by (codes "cell ") refl) (decimal_plain n)
+reply_plain (reply.Made n) none = plain_both (codes "cell ") (decimal n) (plain_by (codes "cell ") refl)
+    (decimal_plain n)
 reply_plain (reply.Named x) none = name_plain x
 reply_plain reply.Null none = plain_by (codes "null") refl
 reply_plain reply.Accepted none = plain_by (codes "ok") refl
@@ -179,7 +182,8 @@ pub started_plain : ArePlain (report_text report.Started)
 started_plain = plain_by (codes "started") refl
 
 pub groups_line_plain : (gs : List ZoneSet) → ArePlain (report_text (report.Groups gs))
-groups_line_plain gs = plain_both (codes "groups") (groups_text 0 gs) (plain_by (codes "groups") refl) (groups_plain 0 gs)
+groups_line_plain gs = plain_both (codes "groups") (groups_text 0 gs) (plain_by (codes "groups") refl)
+    (groups_plain 0 gs)
 
 pub ended_plain : (zones : ZoneSet) (grays : List Name) → ArePlain (report_text (report.Ended zones grays []))
 ended_plain zones grays =

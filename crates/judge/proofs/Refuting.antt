@@ -33,7 +33,8 @@ use Rattle.judge.proofs.LineKinds.{is_done, not_telling}
 use Rattle.judge.proofs.OneList.{one_list}
 use Rattle.judge.proofs.Reported.{first_of}
 use Rattle.judge.proofs.Standing.{forming_stands, present_is}
-use Rattle.judge.proofs.UnitsLeft.{DoneNext, LastNext, NextLeft, ReportNext, done_next, last_next, next_left, report_next}
+use Rattle.judge.proofs.UnitsLeft.{DoneNext, LastNext, NextLeft, ReportNext, done_next, last_next, next_left}
+use Rattle.judge.proofs.UnitsLeft.{report_next}
 
 -- a slice has its units
 has_units : (most : Option ℕ) (collects : Bool) (tally : Tally) (reports : List Report) (k : ℕ) (after : World)
@@ -163,7 +164,7 @@ module _ (g : GraphState) (s : Shown) (w : World) (stands : StandsIn g s w) (non
 module _ (g : GraphState) (s : Shown) (most : Option ℕ) (collects : Bool) (reports : ℕ) (line : List ℕ)
     (lines : List (List ℕ)) (is : IsInUnits g s most collects reports (line ∷ lines))
     (wrong : IsWrongAnswer g s (units_due most collects reports) line) where
-  -- so many units are there
+  -- a slice has room for each number of units up to those that were done
   few : (n : ℕ) → n ≤ is.done → HasUnits most n
   few n less = has_units most collects is.tally _ (is.done + length is.rest.units) is.rest.after is.rest.last
       is.rest.next n is.rest.ends (omega (arith, less))

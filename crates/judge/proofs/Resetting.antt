@@ -46,7 +46,8 @@ pub answered_dump : (g : GraphState) (old new : Shown) (ls : List DumpLine) (lin
     → AreLeft g new next lines
 answered_dump g old new [] line lines next is dumped same = absurd dumped
 answered_dump g old new (l ∷ ls) line lines next is dumped same =
-    subst (λ d. AreLeft g new d lines) (sym dumped.1) (subst (λ s. AreLeft g s (due_of ls) lines) (sym same) (go ls rest))
+    subst (λ d. AreLeft g new d lines) (sym dumped.1)
+        (subst (λ s. AreLeft g s (due_of ls) lines) (sym same) (go ls rest))
   where
     rest : IsBefore g old (map dump_line ls) lines
     rest = record {
@@ -63,7 +64,8 @@ answered_dump g old new (l ∷ ls) line lines next is dumped same =
     go (d ∷ ds) b = b
 
 -- a report of a reset
-module _ (g : GraphState) (old new : Shown) (line : List ℕ) (lines : List (List ℕ)) (is : IsInReset g old (line ∷ lines))
+module _ (g : GraphState) (old new : Shown) (line : List ℕ) (lines : List (List ℕ))
+    (is : IsInReset g old (line ∷ lines))
     (sound : IsSound g new) where
   done_due : StandsIn g new is.after → new.stage ≡ idle → new.told ≡ old.told
       → lines ≡ reply_text reply.ResetDone ∷ is.more → AreLeft g new (after_reset new.stage) lines
@@ -85,7 +87,8 @@ module _ (g : GraphState) (old new : Shown) (line : List ℕ) (lines : List (Lis
 
   -- the last report
   last_report : (final : Report) → LastOfReset is.now final is.after
-      → line ∷ lines ≡ lines_of_reports (final ∷ []) ++ reply_text reply.ResetDone ∷ is.more → IsResetLine g old line new
+      → line ∷ lines ≡ lines_of_reports (final ∷ []) ++ reply_text reply.ResetDone ∷ is.more
+          → IsResetLine g old line new
       → AreLeft g new (after_reset new.stage) lines
   last_report report.Started ends e judged = absurd ends
   last_report (report.Groups groups) ends e judged = absurd ends
@@ -142,7 +145,8 @@ module _ (g : GraphState) (old new : Shown) (line : List ℕ) (lines : List (Lis
         lines_are = tail_is line _ lines _ e;
       }))
     where
-      go : {b : ℕ} {names : List Name} → Sweeps old b names new → (t : Stage) → IsAtStage t old is.now → IsInReset g new lines
+      go : {b : ℕ} {names : List Name} → Sweeps old b names new → (t : Stage) → IsAtStage t old is.now
+          → IsInReset g new lines
           → AreLeft g new (after_reset t) lines
       go s idle at r = absurd (let none = at.none_out in let first = s.first in cc (none, first))
       go s (preparing zones) at r = r

@@ -22,7 +22,8 @@ use Rattle.judge.proofs.GroupLines.{first_bar, first_text, one_group, zones_lack
 
 digits_word : (ds : List ℕ) → all_ascii_digits ds ≡ true → IsWord ds
 digits_word [] e = tt
-digits_word (c ∷ cs) e = let p = tells_all_ascii_digits.parts c cs e in (λ h. omega (arith, p.0.0, h), digits_word cs p.1)
+digits_word (c ∷ cs) e = let p = tells_all_ascii_digits.parts c cs e in
+    (λ h. omega (arith, p.0.0, h), digits_word cs p.1)
 
 words_break : (ns : List ℕ) → IsBreak (number_words ns)
 words_break [] = tt

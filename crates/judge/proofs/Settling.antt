@@ -67,7 +67,8 @@ module _ (s : Shown) (w : World) (valid : IsValid w) where
       nothing_in_none some.0 (subst (λ zs. Contains zs some.0) (at.marking_are ∙ no_zones marking still)
       (gs.marked (zones_in group) some.0 here some.1))
 
-  groups_in : (t : Stage) → IsAtStage t s w → (HasGroups t → ⊥) → (k : Collection) → w.collection ≡ Some k → k.marking ≡ []
+  groups_in : (t : Stage) → IsAtStage t s w → (HasGroups t → ⊥) → (k : Collection) → w.collection ≡ Some k
+      → k.marking ≡ []
   groups_in idle at none k e = absurd (cc (e, at.idle.none_running))
   groups_in (preparing zones) at none k e = absurd (cc (e, at.alone))
   groups_in (collecting zones marking None) at none k e = absurd (none tt)

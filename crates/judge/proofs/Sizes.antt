@@ -4,7 +4,8 @@ use Rattle.gz_names.specs.declared.names.Name.{Name}
 use Rattle.gz_names.specs.declared.commands.GraphCmd.{GraphCmd}
 use Rattle.colour_defs.specs.Graph.{GraphState}
 use Rattle.colour_defs.specs.Step.{step_of, with_register}
-use Rattle.colour_defs.proofs.Effects.{Effect, Waking, comps, dels, effect_of, keeps, makes, puts, slots, takes, waking_of}
+use Rattle.colour_defs.proofs.Effects.{Effect, Waking, comps, dels, effect_of, keeps, makes, puts, slots, takes}
+use Rattle.colour_defs.proofs.Effects.{waking_of}
 use Rattle.colour_defs.proofs.Effects.{wraps, writes, zones}
 use Rattle.colour_defs.proofs.Lists.{length_set}
 

@@ -59,7 +59,8 @@ module _ (g : GraphState) (old new : Shown) (w v : World) (answer : Answer) (mor
           left = (between.not_over, s.done);
           last = reply_text (reply.Sliced k);
           next = v;
-          ends = subst (λ n. EndsSlice most s.tally (flat_map (λ u. u) s.units) n s.after (reply_text (reply.Sliced k)) v)
+          ends = subst (λ n. EndsSlice most s.tally (flat_map (λ u. u) s.units) n s.after
+              (reply_text (reply.Sliced k)) v)
               (sym count) (record {
                 small = small;
                 number = number;
@@ -78,7 +79,8 @@ module _ (g : GraphState) (old new : Shown) (w v : World) (answer : Answer) (mor
             ++ reply_text (reply.Sliced k) ∷ more)) (sym between.none_told);
       }
 
-  pub asked_slice : (n : ℕ) → ComesNext w (command.Slice n) answer v more → GoesOn (units_due (Some n) false 0) old.stage due
+  pub asked_slice : (n : ℕ) → ComesNext w (command.Slice n) answer v more
+      → GoesOn (units_due (Some n) false 0) old.stage due
       → new ≡ old → AreLeft g new due (lines_of_answer answer ++ more)
   asked_slice n next (inl (runs, is)) same = elim next.lawful [
     | inl h ↦ subst (λ d. AreLeft g new d (lines_of_answer answer ++ more)) (sym is)
@@ -92,7 +94,8 @@ module _ (g : GraphState) (old new : Shown) (w v : World) (answer : Answer) (mor
         h.2.silent h.0 h.2.same next.goes_on
   ]
 
-  pub asked_finish : ComesNext w command.Finish answer v more → GoesOn (units_due None false 0) old.stage due → new ≡ old
+  pub asked_finish : ComesNext w command.Finish answer v more → GoesOn (units_due None false 0) old.stage due
+      → new ≡ old
       → AreLeft g new due (lines_of_answer answer ++ more)
   asked_finish next (inl (runs, is)) same = elim next.lawful [
     | inl h ↦ subst (λ d. AreLeft g new d (lines_of_answer answer ++ more)) (sym is)

@@ -38,7 +38,8 @@ sound_same : (g : GraphState) (old new : Shown) → new ≡ old → IsSound g ol
 sound_same g old new e is = subst (IsSound g) (sym e) is
 
 -- a command on the graph
-pub walks_before : (s : Stage) (x : Option Name) (old new : Option Walks) (w : Walks) → WakesAny s x old new → new ≡ Some w
+pub walks_before : (s : Stage) (x : Option Name) (old new : Option Walks) (w : Walks) → WakesAny s x old new
+    → new ≡ Some w
     → (v : Walks) × (old ≡ Some v) × (w.black ≡ v.black) × (w.live ≡ v.live)
 walks_before s None old new w same e = (w, sym same ∙ e, refl, refl)
 walks_before s (Some x) None new w gone e = absurd (cc (e, gone))

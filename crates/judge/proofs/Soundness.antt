@@ -189,7 +189,8 @@ module _ (lines : List (List ℕ)) (g : GraphState) (s t : Shown) (line : List �
       }))
 
   last_next : (most : Option ℕ) (collects : Bool) (reports : ℕ)
-      (a : IsInAnswer lines g s (units most collects reports)) → IsSound g t → IsLast most collects reports s line t → IsWhole (lines ++ line ∷ []) g t
+      (a : IsInAnswer lines g s (units most collects reports)) → IsSound g t → IsLast most collects reports s line t
+          → IsWhole (lines ++ line ∷ []) g t
   last_next most collects reports a sound l =
       let p = a.progress in
       let e = last_at a.before a.laws g s t reports a.part line sound a.command most collects p.begun p.of p.running
@@ -197,7 +198,8 @@ module _ (lines : List (List ℕ)) (g : GraphState) (s t : Shown) (line : List �
       closes (units most collects reports) a e.0 e.1 e.2 e.3 e.4 e.5 e.6
 
   units_next : (most : Option ℕ) (collects : Bool) (reports : ℕ)
-      (a : IsInAnswer lines g s (units most collects reports)) → IsSound g t → (next : Due) → IsAnswered g s (units most collects reports) line t next
+      (a : IsInAnswer lines g s (units most collects reports)) → IsSound g t → (next : Due)
+          → IsAnswered g s (units most collects reports) line t next
       → UpTo (lines ++ line ∷ []) g t next
   units_next most collects reports a sound next (inl (reported, more, counts, fits, is)) =
       let p = a.progress in
@@ -207,7 +209,8 @@ module _ (lines : List (List ℕ)) (g : GraphState) (s t : Shown) (line : List �
         of = p.of;
         running = p.running;
         fits = fits;
-        so_far = line_next p.begun (record { graph = g; old = s; new = t; part = a.part; line = line }) reports more sound
+        so_far = line_next p.begun (record { graph = g; old = s; new = t; part = a.part; line = line }) reports more
+            sound
             reported counts p.so_far;
       }))
   units_next most collects reports a sound next (inr (l, is)) =

@@ -7,7 +7,7 @@ use Rattle.judge.specs.Bounds.{with_units}
 use Rattle.judge.specs.Represents.{IsAtStage, Represents}
 use Rattle.judge.specs.Stages.{Shown, Stage, collecting, idle, preparing}
 
--- the world after so many units more
+-- the world in which k more units are counted
 abbrev pub spent_in : ℕ → World → World
 spent_in k w =
     record w { preparing = with_spent_preparing k w.preparing; collection = with_spent k w.collection }

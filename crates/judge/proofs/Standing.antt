@@ -27,7 +27,8 @@ module _ {g : GraphState} {s : Shown} {w : World} (stands : Represents g s w) wh
   pub prepared_at : (zones : ZoneSet) → s.stage ≡ preparing zones → IsPrepared s zones w
   prepared_at zones e = at_stage (preparing zones) e
 
-  pub collected_at : (zones marking : ZoneSet) (groups : Option (List ZoneSet)) → s.stage ≡ collecting zones marking groups
+  pub collected_at : (zones marking : ZoneSet) (groups : Option (List ZoneSet))
+      → s.stage ≡ collecting zones marking groups
       → IsCollected s zones marking groups w
   collected_at zones marking groups e = at_stage (collecting zones marking groups) e
 

@@ -1,5 +1,6 @@
 -- A collection is given up: the judge stands for the world after it.
-use Rattle.std.proofs.Common.{◌≡◌, ◌↔◌, ◌∙◌, ◌⊎◌, inl, inr, ℕ, List, [], ◌∷◌, Option, Some, None, Contains, refl, sym, ap}
+use Rattle.std.proofs.Common.{◌≡◌, ◌↔◌, ◌∙◌, ◌⊎◌, inl, inr, ℕ, List, [], ◌∷◌, Option, Some, None, Contains, refl, sym}
+use Rattle.std.proofs.Common.{ap}
 use Rattle.std.proofs.Common.{subst}
 use Rattle.std.specs.BTreeMap as tree
 use Rattle.std.specs.FinMap as finite
@@ -95,7 +96,8 @@ black_by s w (collecting zones marking groups) e at runs not_over none present x
       ),
 )
   where
-    left : (gs : Option (List ZoneSet)) → s.stage ≡ collecting zones marking gs → HasGroups (collecting zones marking gs)
+    left : (gs : Option (List ZoneSet)) → s.stage ≡ collecting zones marking gs
+        → HasGroups (collecting zones marking gs)
     left None at = tt
     left (Some []) at = not_over (record { zones = zones; marking = marking; ended = at; none_out = none })
     left (Some (group ∷ rest)) at = tt

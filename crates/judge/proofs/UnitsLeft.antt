@@ -6,7 +6,8 @@ use Rattle.std.specs.List.{flat_map}
 use Rattle.std.proofs.lemmas.List.{append-nil}
 use Rattle.gz_names.specs.declared.replies.Report.{Report}
 use Rattle.gz_names.specs.declared.replies.Report.TheVariants as report
-use Rattle.colour_defs.specs.Lawful.{AreLawfulUnits, Finishes, IsLawfulReport, IsLawfulUnit, IsOver, IsRunning, quiet, says}
+use Rattle.colour_defs.specs.Lawful.{AreLawfulUnits, Finishes, IsLawfulReport, IsLawfulUnit, IsOver, IsRunning, quiet}
+use Rattle.colour_defs.specs.Lawful.{says}
 use Rattle.colour_defs.specs.Lawful.{last as closing}
 use Rattle.colour_defs.specs.Units.{Tally}
 use Rattle.colour_defs.specs.World.{World}
@@ -28,7 +29,8 @@ pub record DoneNext (now : World) (most : Option ℕ) (collects : Bool) (tally :
   pub lines_are : lines ≡ report_text report.Done ∷ rest
 
 -- a report comes next, which is that of a unit more
-pub record ReportNext (now : World) (most : Option ℕ) (collects : Bool) (tally : Tally) (so_far : List Report) (done : ℕ)
+pub record ReportNext (now : World) (most : Option ℕ) (collects : Bool) (tally : Tally) (so_far : List Report)
+    (done : ℕ)
     (lines : List (List ℕ)) : Type 0 where
   pub said : Report
   pub other : said ≢ report.Done
@@ -57,7 +59,8 @@ pub record LastNext (now : World) (most : Option ℕ) (collects : Bool) (tally :
 pub data NextLeft (now : World) (most : Option ℕ) (collects : Bool) (tally : Tally) (so_far : List Report) (done : ℕ)
     (lines : List (List ℕ)) : Type 0 where
   done_next : DoneNext now most collects tally so_far done lines → NextLeft now most collects tally so_far done lines
-  report_next : ReportNext now most collects tally so_far done lines → NextLeft now most collects tally so_far done lines
+  report_next : ReportNext now most collects tally so_far done lines
+      → NextLeft now most collects tally so_far done lines
   last_next : LastNext now most collects tally so_far done lines → NextLeft now most collects tally so_far done lines
 
 module _ (most : Option ℕ) (collects : Bool) (tally : Tally) (so_far : List Report) (lines : List (List ℕ)) where

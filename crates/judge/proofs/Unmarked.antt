@@ -16,7 +16,8 @@ use Rattle.judge.specs.Replies.{Due, IsUnmarked, dump, nothing, reply as reply_d
 use Rattle.judge.specs.Stages.{Shown}
 use Rattle.judge.specs.Transcripts.{dump_line, lines_of_reports}
 use Rattle.judge.proofs.Answered.{head_is, left_next, report_lines, told_next}
-use Rattle.judge.proofs.PlainTexts.{done_plain, ended_plain, groups_line_plain, reply_plain, started_plain, stopped_plain}
+use Rattle.judge.proofs.PlainTexts.{done_plain, ended_plain, groups_line_plain, reply_plain, started_plain}
+use Rattle.judge.proofs.PlainTexts.{stopped_plain}
 use Rattle.judge.proofs.PlainTexts.{ArePlain, swept_plain, told_plain, unmarked}
 use Rattle.judge.proofs.Reported.{first_of}
 use Rattle.judge.proofs.UnitsLeft.{NextLeft, done_next, last_next, next_left, report_next}
@@ -82,7 +83,8 @@ unmarked_in_reset g s line lines is = go is.sweeps is.are_swept is.lines_are
         plain_line (report_text (report.Stopped zones)) line (head_is line _ lines _ e) (stopped_plain zones)
 
     go : (rs : List Report) → AreLawfulSweeps is.now rs is.swept
-        → line ∷ lines ≡ lines_of_reports (rs ++ is.final ∷ []) ++ reply_text reply.ResetDone ∷ is.more → IsUnmarked line
+        → line ∷ lines ≡ lines_of_reports (rs ++ is.final ∷ []) ++ reply_text reply.ResetDone ∷ is.more
+            → IsUnmarked line
     go [] same e = last is.final is.swept is.ends e
     go (report.Swept arena freed ∷ rs) more e = plain_line (report_text (report.Swept arena freed)) line
         (head_is line _ lines _ e) (swept_plain arena freed)

@@ -41,7 +41,8 @@ module _ (g : GraphState) (starts woken : Names) (found more : List Name)
   to_lists s h = elim h [
     | inl a ↦ kept (inl a)
     | inr b ↦ elim (inserted woken x s b) [
-      | inl e ↦ from (inr (Contains-append_right more (x ∷ []) s (subst (λ z. Contains (z ∷ []) s) e (contains_head s []))))
+      | inl e ↦ from (inr (Contains-append_right more (x ∷ []) s
+          (subst (λ z. Contains (z ∷ []) s) e (contains_head s []))))
       | inr c ↦ kept (inr c)
     ]
   ]

@@ -1,5 +1,5 @@
--- What a judge writes, and how it ends: `lawful` only for a lawful transcript, and `at line N` only for one that no lawful
--- transcript equals so far.
+-- What a judge writes, and how it ends: `lawful` only for a lawful transcript, and `at line N` only for one that no
+-- lawful transcript equals so far.
 use Rattle.std.specs.Prelude.{◌≡◌, ◌⊎◌, ℕ, ◌+◌, List, [], ◌∷◌, ◌++◌, Option, codes, length, ⊤}
 use Rattle.std.specs.Fmt.{decimal}
 use Rattle.std.specs.Io.KnownBytes.{Appends}

@@ -1,6 +1,6 @@
--- What is left of a lawful transcript behind some of its lines, where the judge stands for the world that these lead to.
--- The judge goes line by line, the definitions command by command: within an answer the invariant has the world that the
--- units so far lead to, and the units that are left.
+-- What is left of a lawful transcript behind some of its lines, where the judge stands for the world that these lead
+-- to. The judge goes line by line, the definitions command by command: within an answer the invariant has the world
+-- that the units so far lead to, and the units that are left.
 use Rattle.std.specs.Prelude.{◌≡◌, ℕ, ◌+◌, ◌<◌, ◌≤◌, ◌^◌, Bool, true, false, List, [], ◌∷◌, ◌++◌, map, length, Option}
 use Rattle.std.specs.Prelude.{Some, None, Contains, codes, is_some}
 use Rattle.std.specs.List.{flat_map}
@@ -85,7 +85,7 @@ abbrev pub EndsUnits : Bool → Option ℕ → Tally → List Report → ℕ →
 EndsUnits true most tally reports k after last next = EndsCollect most after last next
 EndsUnits false most tally reports k after last next = EndsSlice most tally reports k after last next
 
--- an answer with units, of which these reports and so many units are done: these lines are left
+-- an answer with units, of which these reports are written and `done` units were done: these lines are left
 pub record IsLeftOfUnits (now : World) (most : Option ℕ) (collects : Bool) (tally : Tally) (so_far : List Report)
     (done : ℕ) (lines : List (List ℕ)) : Type 0 where
   pub is_last : Bool

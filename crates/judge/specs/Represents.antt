@@ -1,8 +1,8 @@
--- A world of the definitions for which what the judge shows stands, at each moment of a transcript: between two answers,
--- and behind each line of one. `Represents` says that they have the same graph, the same cells in the same places, the
--- same arenas, and the same white cells that wait there, weak names and watched cells; and of a collection the same by
--- its stage. The records of one clause alone follow from it: `Stands` (Groups), `StandsPrepared` (Bounds), `Rests`
--- (Dumps) and `Lies` (Compaction).
+-- A world of the definitions for which what the judge shows stands, at each moment of a transcript: between two
+-- answers, and behind each line of one. `Represents` says that they have the same graph, the same cells in the same
+-- places, the same arenas, and the same white cells that wait there, weak names and watched cells; and of a collection
+-- the same by its stage. The records of one clause alone follow from it: `Stands` (Groups), `StandsPrepared` (Bounds),
+-- `Rests` (Dumps) and `Lies` (Compaction).
 use Rattle.std.specs.Prelude.{◌≡◌, ◌↔◌, ◌≤◌, ◌<◌, ◌^◌, ℕ, List, [], map, length, Option, Some, None, Contains}
 use Rattle.std.specs.BTreeMap as tree
 use Rattle.std.specs.FinMap as finite
@@ -74,7 +74,7 @@ pub record IsAtRest (s : Shown) (w : World) : Type 0 where
   pub idle : IsIdle w
   pub none_out : s.out ≡ []
 
--- the same of a collection, by how far it is
+-- what stands for a collection is that of the world, by how far it is
 abbrev pub IsAtStage : Stage → Shown → World → Type 0
 IsAtStage idle s w = IsAtRest s w
 IsAtStage (preparing zones) s w = IsPrepared s zones w

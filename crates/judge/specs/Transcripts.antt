@@ -1,7 +1,7 @@
 -- Lawful transcripts, by the definitions: behind each line of a trace, which is marked, the lines of a lawful answer to
--- its command. A transcript is the list of its lines. `IsLawful` says that such a list is lawful from the first world on,
--- `IsLawfulSoFar` that its answers are lawful and the last one has begun lawfully, `IsNoStart` that no lawful transcript
--- begins so.
+-- its command. A transcript is the list of its lines. `IsLawful` says that such a list is lawful from the first world
+-- on, `IsLawfulSoFar` that its answers are lawful and the last one has begun lawfully, `IsNoStart` that no lawful
+-- transcript begins so.
 use Rattle.std.specs.Prelude.{◌≡◌, ◌⊎◌, ℕ, ◌+◌, ◌<◌, ◌^◌, List, [], ◌∷◌, ◌++◌, map, length, codes, ⊤}
 use Rattle.std.specs.List.{flat_map}
 use Rattle.gz_io.specs.Lines.{EndsLine}
@@ -158,7 +158,7 @@ HasLines input (line ∷ lines) rest =
 abbrev pub HasLawfulLines : List ℕ → Type 0
 HasLawfulLines input = (lines : List (List ℕ)) × HasLines input lines [] × IsLawful lines
 
--- the same over bytes: the lines that answer a command are its reports and its reply, as they are written
+-- over bytes: the lines that answer a command are its reports and its reply, as they are written
 abbrev pub report_lines : List Report → List ℕ
 report_lines reports = flat_map (λ r. line_of (report_text r)) reports
 
