@@ -260,8 +260,11 @@ module _ (k : Change) (h : GraphState) (x also : Option Name) (f : Collection �
           wakes_left zones at (grows_at zones e)
               (record w { graph = h; black = present_of (record w { graph = h }) (names_left new.left_out) })
               (λ s. z ≡ s) refl
-              (presence_of (record w { graph = h; black = present_of (record w { graph = h })
-                  (names_left new.left_out) })
+              (presence_of (record w {
+                graph = h;
+                black = present_of (record w { graph = h })
+                    (names_left new.left_out);
+              })
               ch) (λ s p. p)
               (λ s q. a.also_there s (m ∙ ap Some q))
               (λ s. (

@@ -122,7 +122,7 @@ module _ (g : GraphState) (old new : Shown) (most : Option ℕ) (collects : Bool
       let all = left_next none ∙ d.lines_are in
       let text : line ≡ report_text report.Done = head_is line _ lines d.rest all in
       let after = reported g old new is.now d.after is.stands sound none report.Done mine
-          (sym text ∙ e) d.finishes judged
+      (sym text ∙ e) d.finishes judged
       in record {
         now = d.after;
         stands = after.stands;

@@ -104,7 +104,7 @@ module _ (old new : Shown) (w v : World) (answer : Answer) (more : List (List â„
       let obeys = asks.1 in
       let then = represents_command c answer.1 old new w v between.stands obeys
       (places_new (change.Command c) (step_of w.graph c).0 (wakes w.graph c)
-          (wakes_also w.graph c) old new obeys.changes)
+      (wakes_also w.graph c) old new obeys.changes)
       next.lawful.1 in
       let laws = laws_then (command.Graph c) (step_of w.graph c).0 next then.graph_is (command_sizes w.graph c) in
       subst (Î» d. AreLeft (step_of w.graph c).0 new d (lines_of_answer answer ++ more)) (sym asks.0)

@@ -44,7 +44,7 @@ module _ (g : GraphState) (zones : ZoneSet) (old new : Shown) (w v : World) (sta
             (leaves x).1 (
               (present_is stands x).0 ((valid.settled
                   (settled_world stands valid (subst Rattle.judge.specs.Stages.IsSettled
-                      (sym idle_is) refl))).present x h.0),
+                  (sym idle_is) refl))).present x h.0),
               (out.0 h.1, (was.names_are x).0 h.0),
             ),
         λ l. let h = (leaves x).0 l in (lawful.black_are x).1 ((was.names_are x).1 h.1.1, out.1 h.1.0),

@@ -87,7 +87,7 @@ pub wrong_none : (g : GraphState) (s : Shown) (due : Due) (line : List ℕ) (lin
     → IsNoStart (lines ++ line ∷ [])
 wrong_none g s due line lines left wrong more lawful =
     left_right g s due line more (left (line ∷ more)
-        (subst IsLawful (append_assoc lines (line ∷ []) more) lawful)) wrong
+    (subst IsLawful (append_assoc lines (line ∷ []) more) lawful)) wrong
 
 bad_left : (g : GraphState) (s : Shown) (due : Due) (line : List ℕ) (more : List (List ℕ))
     → AreLeft g s due (line ∷ more) → IsBadLine line → ⊥

@@ -132,8 +132,11 @@ module _ (g : GraphState) (group : ZoneSet) (judged grays told : List Name) (old
   white_as x = (
     λ h. (
       (present_is stands.represents x).0 h.present,
-      ((in_group x).0 h.here, λ live. white_is_not_live w running.collection (zones_in group) x h
-          ((found.live_are x).1 live)),
+      (
+        (in_group x).0 h.here,
+        λ live. white_is_not_live w running.collection (zones_in group) x h
+            ((found.live_are x).1 live),
+      ),
     ),
     λ h. white_of w running.collection (zones_in group) x ((present_is stands.represents x).1 h.0)
         ((in_group x).1 h.1.0) (λ live. h.1.1 ((found.live_are x).0 live))

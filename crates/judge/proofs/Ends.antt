@@ -23,7 +23,7 @@ lawful_written input result old new before after j (inl (is, done)) =
     subst (λ r. EndsBy input old new r) (sym is) (lawful_bytes input (sound_judge places_new input j), done)
 lawful_written input result old new before after j (inr (is, front, rose)) =
     subst (λ r. EndsBy input old new r) (sym is)
-        (codes "lawful\n", inl (lawful_bytes input (sound_judge places_new input j), refl), front)
+    (codes "lawful\n", inl (lawful_bytes input (sound_judge places_new input j), refl), front)
 
 -- only a sink that failed ends it by a failed write, and no write ends it by a failed read
 pub fault_rose : (result said : JudgeEnd) (old new : Option (List ℕ)) (text : List ℕ) (before after : ℕ)

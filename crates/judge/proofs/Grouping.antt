@@ -15,7 +15,7 @@ use Rattle.plain_graph.specs.Indexed.{order_of}
 use Rattle.plain_graph.specs.Reach.{IsDone, WalkState}
 use Rattle.judge.specs.Positions.{StandsIn}
 use Rattle.judge.specs.Represents.{AreWaiting, IsCollected, Represents}
-use Rattle.judge.specs.Stages.{Forms, HasGroups, Shown, collecting}
+use Rattle.judge.specs.Stages.{Forms, HasGroups, IsSettled, Shown, collecting}
 use Rattle.judge.specs.Walks.{CatchUp, CatchesUp, IsFoundBlack, IsFoundLive, Walks}
 use Rattle.judge.specs.Weak.{IsWatched}
 use Rattle.judge.proofs.Found.{HasCaught, black_is, live_is, reached_from}
@@ -128,8 +128,7 @@ module _ (g : GraphState) (groups : List ZoneSet) (gs : List (List ℕ)) (old ne
     watched_are = λ x. subst (λ (z : World). Has z.weak.watched x ↔ IsWatched old.weak x) (sym lawful.world_is)
         (stands.represents.watched_are x);
     black_are = λ still.
-        let b = stands.represents.black_are (subst Rattle.judge.specs.Stages.IsSettled (sym forms.was) still) in record
-            {
+        let b = stands.represents.black_are (subst IsSettled (sym forms.was) still) in record {
           within = b.within;
           names_are = λ x. subst (λ (z : World). Has z.black x ↔ Contains old.black.names x) (sym lawful.world_is)
               (b.names_are x);

@@ -228,8 +228,11 @@ report_one report.Started = (one_line (report_text report.Started) started_plain
 report_one (report.Groups groups) = (one_line (report_text (report.Groups groups)) (groups_line_plain groups), tt)
 report_one (report.Ended zones grays told) =
     (one_line (report_text (report.Ended zones grays [])) (ended_plain zones grays), told_one told)
-report_one (report.Swept arena freed) = (one_line (report_text (report.Swept arena freed))
-    (swept_plain arena freed), tt)
+report_one (report.Swept arena freed) = (
+  one_line (report_text (report.Swept arena freed))
+      (swept_plain arena freed),
+  tt,
+)
 report_one report.Done = (one_line (report_text report.Done) done_plain, tt)
 report_one (report.Stopped zones) = (one_line (report_text (report.Stopped zones)) (stopped_plain zones), tt)
 
@@ -286,8 +289,11 @@ run_text w (t ∷ ts) (a ∷ answers) (c ∷ cs) v stand (u, first, rest) =
       text = ap (λ x. line_of (marked t) ++ x)
           (flat_both (lines_of_answer a) (transcript ts answers)
           ∙ (λ i. answer_flat a some i ++ more.text i));
-      one = (marked_one t c stand.0, one_lines_both (lines_of_answer a) (transcript ts answers)
-          (answer_one a) more.one);
+      one = (
+        marked_one t c stand.0,
+        one_lines_both (lines_of_answer a) (transcript ts answers)
+            (answer_one a) more.one,
+      );
       full = full_both (marked t ∷ []) (lines_of_answer a ++ transcript ts answers)
           (λ e. whole.0 (first_none (lines_of_answer a) (transcript ts answers) e))
           (end_full (lines_of_answer a) (transcript ts answers) whole.1 more.full);

@@ -93,5 +93,5 @@ laws_spent w n laws = laws_of w (spent_in n w) w.graph laws
     (retallied_valid w w.out w.white laws.valid (spent_retallied n w.collection) refl (preparing_respent n w.preparing)
     refl)
     (live_retallied w w.out w.white (with_spent_preparing n w.preparing)
-        (spent_retallied n w.collection) refl laws.live)
+    (spent_retallied n w.collection) refl laws.live)
     refl (same_sizes w.graph)

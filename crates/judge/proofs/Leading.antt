@@ -86,7 +86,7 @@ module _ (old new : Shown) (w v : World) (answer : Answer) (more : List (List �
     (between : StandsBetween w.graph old w) where
   asked : (c : Cmd) → Spells text c → ComesNext w c answer v more → Asks w.graph old c due new
       → IsSound (graph_after w.graph old c) new
-          → AreLeft (graph_after w.graph old c) new due (lines_of_answer answer ++ more)
+      → AreLeft (graph_after w.graph old c) new due (lines_of_answer answer ++ more)
   asked (command.Graph c) spells next asks sound = asked_graph old new w v answer more due between c next asks sound
   asked (command.Weak c) spells next asks sound = asked_weak old new w v answer more due between c next asks sound
   asked (command.Gc zones) spells next asks sound = asked_gc w.graph zones old new w v answer more due between
@@ -121,7 +121,7 @@ left_steps g h old new due next line lines left (inl (text, c, whole, is, read, 
     → AreLeft (graph_after a old c) new next (lines_of_answer goes.answer ++ goes.more))
     before.stands.stands.represents.graph_is
     (λ b a s. asked old new before.world goes.after goes.answer goes.more next text b c read.0 comes a s) before.stands
-        asks
+    asks
     (subst (λ k. IsSound k new) after sound)))
 left_steps g h old new due next line lines left (inr (unmarked, same, answered)) sound =
     subst (λ k. AreLeft k new next lines) (sym same)

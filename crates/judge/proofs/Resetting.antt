@@ -47,7 +47,7 @@ pub answered_dump : (g : GraphState) (old new : Shown) (ls : List DumpLine) (lin
 answered_dump g old new [] line lines next is dumped same = absurd dumped
 answered_dump g old new (l ∷ ls) line lines next is dumped same =
     subst (λ d. AreLeft g new d lines) (sym dumped.1)
-        (subst (λ s. AreLeft g s (due_of ls) lines) (sym same) (go ls rest))
+    (subst (λ s. AreLeft g s (due_of ls) lines) (sym same) (go ls rest))
   where
     rest : IsBefore g old (map dump_line ls) lines
     rest = record {
@@ -88,7 +88,7 @@ module _ (g : GraphState) (old new : Shown) (line : List ℕ) (lines : List (Lis
   -- the last report
   last_report : (final : Report) → LastOfReset is.now final is.after
       → line ∷ lines ≡ lines_of_reports (final ∷ []) ++ reply_text reply.ResetDone ∷ is.more
-          → IsResetLine g old line new
+      → IsResetLine g old line new
       → AreLeft g new (after_reset new.stage) lines
   last_report report.Started ends e judged = absurd ends
   last_report (report.Groups groups) ends e judged = absurd ends

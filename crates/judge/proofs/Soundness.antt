@@ -190,7 +190,7 @@ module _ (lines : List (List ℕ)) (g : GraphState) (s t : Shown) (line : List �
 
   last_next : (most : Option ℕ) (collects : Bool) (reports : ℕ)
       (a : IsInAnswer lines g s (units most collects reports)) → IsSound g t → IsLast most collects reports s line t
-          → IsWhole (lines ++ line ∷ []) g t
+      → IsWhole (lines ++ line ∷ []) g t
   last_next most collects reports a sound l =
       let p = a.progress in
       let e = last_at a.before a.laws g s t reports a.part line sound a.command most collects p.begun p.of p.running
@@ -199,7 +199,7 @@ module _ (lines : List (List ℕ)) (g : GraphState) (s t : Shown) (line : List �
 
   units_next : (most : Option ℕ) (collects : Bool) (reports : ℕ)
       (a : IsInAnswer lines g s (units most collects reports)) → IsSound g t → (next : Due)
-          → IsAnswered g s (units most collects reports) line t next
+      → IsAnswered g s (units most collects reports) line t next
       → UpTo (lines ++ line ∷ []) g t next
   units_next most collects reports a sound next (inl (reported, more, counts, fits, is)) =
       let p = a.progress in

@@ -84,7 +84,7 @@ unmarked_in_reset g s line lines is = go is.sweeps is.are_swept is.lines_are
 
     go : (rs : List Report) → AreLawfulSweeps is.now rs is.swept
         → line ∷ lines ≡ lines_of_reports (rs ++ is.final ∷ []) ++ reply_text reply.ResetDone ∷ is.more
-            → IsUnmarked line
+        → IsUnmarked line
     go [] same e = last is.final is.swept is.ends e
     go (report.Swept arena freed ∷ rs) more e = plain_line (report_text (report.Swept arena freed)) line
         (head_is line _ lines _ e) (swept_plain arena freed)

@@ -234,7 +234,7 @@ module _ (s t : Shown) (w : World) (f : StandsIn w.graph s w) (group : ZoneSet) 
   black_stays : (x : Name) → BlackClosure k x → IsPresent ended_world x
   black_stays x b = let live = f.laws.live.marking k ending.collection_is some_marking in
       stays x (live.live x (black_in_live w k marks x b))
-          (λ h. h.1 ((found.live_are x).0 (black_in_live w k marks x b)))
+      (λ h. h.1 ((found.live_are x).0 (black_in_live w k marks x b)))
 
   black_are : zones_without k.marking (zones_in group) ≡ [] → (x : Name)
       → Has ended_world.black x ↔ (BlackClosure k x × IsPresent ended_world x)

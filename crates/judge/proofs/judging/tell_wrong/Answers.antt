@@ -13,7 +13,7 @@ wrong_written : (input : List ℕ) (result : JudgeEnd) (old new : Option (List �
     → Wrote result (end.Unlawful line) old new text before after → EndsBy input old new result
 wrong_written input result old new before after line kind text w same (inl (is, done)) =
     subst (λ r. EndsBy input old new r) (sym is)
-        (wrong_first input line w, kind, subst (λ t. Appends old new t) same done)
+    (wrong_first input line w, kind, subst (λ t. Appends old new t) same done)
 wrong_written input result old new before after line kind text w same (inr (is, front, rose)) =
     subst (λ r. EndsBy input old new r) (sym is)
     (text, inr (line, kind, wrong_first input line w, same), front)
