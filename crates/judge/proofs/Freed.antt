@@ -11,7 +11,7 @@ use Rattle.colour_defs.specs.Compaction.{IsBefore}
 use Rattle.colour_defs.specs.Ends.{arenas_from}
 use Rattle.colour_defs.specs.Graph.{is_among}
 use Rattle.colour_defs.proofs.Lists.{nothing_in_none, contains_head, contains_tail, contains_cases}
-use Rattle.judge.specs.Compaction.{free_in, free_slots}
+use Rattle.judge.specs.Compaction.{AreSorted, free_in, free_slots}
 use Rattle.judge.specs.Places.{Lying, place_order}
 use Rattle.judge.proofs.Owners.{from_first}
 
@@ -45,10 +45,6 @@ unfolding free_in
 in_none taken arenas e = ap (free_in taken) e
 
 -- places that ascend
-abbrev pub AreSorted : List Place → Type 0
-AreSorted [] = Unit {0}
-AreSorted (p ∷ ps) = ((q : Place) → Contains ps q → IsBefore p q) × AreSorted ps
-
 pub sorted_both : (ps qs : List Place) → AreSorted ps → AreSorted qs
     → ((p q : Place) → Contains ps p → Contains qs q → IsBefore p q) → AreSorted (ps ++ qs)
 sorted_both [] qs s t b = t
@@ -177,6 +173,23 @@ numbers_ascend n (o ∷ os) zones =
         → Ascend n (cond b (n ∷ arenas_from (n + 1) os zones) (arenas_from (n + 1) os zones))
     go rest true = (omega arith, rest)
     go rest false = ascend_from (n + 1) n (arenas_from (n + 1) os zones) (omega arith) rest
+
+-- they are numbers of arenas
+pub numbers_below : (n : ℕ) (os : List (Option ℕ)) (zones : List ℕ) (a : ℕ) → Contains (arenas_from n os zones) a
+    → a < n + length os
+numbers_below n [] zones a c = absurd (nothing_in_none a c)
+numbers_below n (o ∷ os) zones a c =
+    go (λ d. numbers_below (n + 1) os zones a d) (is_among zones o)
+    (subst (λ ns. Contains ns a) (from_first n o os zones) c)
+  where
+    go : (Contains (arenas_from (n + 1) os zones) a → a < n + 1 + length os) → (b : Bool)
+        → Contains (cond b (n ∷ arenas_from (n + 1) os zones) (arenas_from (n + 1) os zones)) a
+        → a < n + suc (length os)
+    go more true c = elim (contains_cases n (arenas_from (n + 1) os zones) a c) [
+      | inl e ↦ omega (arith, e)
+      | inr t ↦ (let h = more t in omega (arith, h))
+    ]
+    go more false c = (let h = more c in omega (arith, h))
 
 -- a free slot of some arenas
 pub record IsFreeOf (taken : Lying) (arenas : List ℕ) (p : Place) : Type 0 where

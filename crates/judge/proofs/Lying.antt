@@ -12,9 +12,10 @@ use Rattle.gz_names.specs.declared.names.Name.{Name}
 use Rattle.gz_names.specs.declared.numbers.Place.{Place}
 use Rattle.colour_defs.proofs.Lists.{nothing_in_none, contains_head, contains_tail, contains_cases}
 use Rattle.plain_graph.specs.Indexed.{order_of}
+use Rattle.plain_graph.proofs.Indexes.{order_itself, order_ties}
 use Rattle.judge.specs.Cells.{Cells}
 use Rattle.judge.specs.Compaction.{AreLying, Lays}
-use Rattle.judge.specs.Places.{Lying, place_order}
+use Rattle.judge.specs.Places.{AreSpread, Lying, place_order}
 use Rattle.judge.proofs.Cells.{names_exact, names_ordered}
 
 pub places_total : IsTotalOrder place_order
@@ -29,8 +30,19 @@ place_ties p q e = tells_apart places_exact p q e
 pub place_itself : (p : Place) → is_eq (place_order p p) ≡ true
 place_itself p = ap is_eq (tied_itself places_total p)
 
+-- names that do not differ are the same
+same_name_of : (x y : Name) → ((x ≡ y → ⊥) → ⊥) → x ≡ y
+same_name_of x y un = go (is_eq (order_of x y)) refl
+  where
+    go : (b : Bool) → is_eq (order_of x y) ≡ b → x ≡ y
+    go true e = order_ties x y e
+    go false e = absurd (un (λ same. let tied : is_eq (order_of x y) ≡ true =
+        ap (λ (z : Name). is_eq (order_of x z)) (sym same) ∙ order_itself x in cc (tied, e)))
+
 -- what lies in these arenas of the cells that were looked at; the others are left
 pub record LaysSoFar (arenas : List ℕ) (cells : Cells) (left : List (Name × Place)) (lying : Lying) : Type 0 where
+  pub spread : AreSpread cells
+  pub ordered : tree.IsOrdered place_order lying
   pub sound : (p : Place) (x : Name) → tree.get place_order lying p ≡ Some x
       → (tree.get order_of cells x ≡ Some p) × Contains arenas p.0
   pub all : (p : Place) (x : Name) → tree.get order_of cells x ≡ Some p → Contains arenas p.0
@@ -38,9 +50,11 @@ pub record LaysSoFar (arenas : List ℕ) (cells : Cells) (left : List (Name × P
   pub there : (x : Name) (p : Place) → Contains left (x, p) → tree.get order_of cells x ≡ Some p
 
 pub lays_none : (arenas : List ℕ) (cells : Cells) (left : List (Name × Place)) (lying : Lying)
-    → tree.IsOrdered order_of cells → left ≡ cells.entries → lying.entries ≡ []
-    → LaysSoFar arenas cells left lying
-lays_none arenas cells left lying up is none = record {
+    → AreSpread cells → tree.IsOrdered order_of cells → left ≡ cells.entries → lying.entries ≡ []
+    → tree.IsOrdered place_order lying → LaysSoFar arenas cells left lying
+lays_none arenas cells left lying spread up is none ordered = record {
+  spread = spread;
+  ordered = ordered;
   sound = λ p x e. absurd (cc (
     e,
     ap (λ (es : List (Place × Name)). lookup (tree.is_at (place_order p)) es) none,
@@ -55,7 +69,9 @@ lays_none arenas cells left lying up is none = record {
 pub lays_more : (arenas : List ℕ) (cells : Cells) (left more : List (Name × Place)) (e : Name × Place)
     (old new : Lying) → left ≡ e ∷ more → Lays arenas e.0 e.1 old new → LaysSoFar arenas cells left old
     → LaysSoFar arenas cells more new
-lays_more arenas cells left more (x, p) old new is (inl (here, none, up)) so = record {
+lays_more arenas cells left more (x, p) old new is (inl (here, up, ordered)) so = record {
+  spread = so.spread;
+  ordered = ordered;
   sound = λ q y e. found q y e (is_eq (place_order p q)) refl;
   all = λ q y e c. kept q y (so.all q y e c);
   there = λ y q c. so.there y q (subst (λ es. Contains es (y, q)) (sym is) (contains_tail (x, p) more (y, q) c));
@@ -84,7 +100,9 @@ lays_more arenas cells left more (x, p) old new is (inl (here, none, up)) so = r
       where
         go : (b : Bool) → is_eq (place_order p q) ≡ b
             → (tree.get place_order new q ≡ Some y) ⊎ Contains more (y, q)
-        go true tie = absurd (let n = ap (tree.get place_order old) (sym (place_ties p q tie)) ∙ none in cc (n, was))
+        go true tie =
+            let there = subst (λ r. tree.get order_of cells x ≡ Some r) (place_ties p q tie) first in
+            inl (at q true tie ∙ ap Some (same_name_of x y (so.spread.apart x y q there (so.sound q y was).0)))
         go false tie = inl (at q false tie ∙ was)
     kept q y (inr c) = elim (contains_cases (x, p) more (y, q) (subst (λ es. Contains es (y, q)) is c)) [
       | inl e ↦ let same : p ≡ q = ap (λ (f : Name × Place). f.1) e in
@@ -93,6 +111,8 @@ lays_more arenas cells left more (x, p) old new is (inl (here, none, up)) so = r
       | inr t ↦ inr t
     ]
 lays_more arenas cells left more (x, p) old new is (inr (out, same)) so = record {
+  spread = so.spread;
+  ordered = subst (tree.IsOrdered place_order) (sym same) so.ordered;
   sound = λ q y e. so.sound q y (ap (λ l. tree.get place_order l q) (sym same) ∙ e);
   all = λ q y e c. kept q y c (so.all q y e c);
   there = λ y q c. so.there y q (subst (λ es. Contains es (y, q)) (sym is) (contains_tail (x, p) more (y, q) c));

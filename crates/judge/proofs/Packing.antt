@@ -1,6 +1,6 @@
 -- The cells of a zone move as the definitions have it.
-use Rattle.std.proofs.Common.{◌≡◌, ◌∙◌, ◌⊎◌, ◌↔◌, inl, inr, ℕ, suc, ◌<◌, Bool, true, false, cond, List, [], ◌∷◌}
-use Rattle.std.proofs.Common.{◌++◌, length, Option, Some, None, Contains, refl, sym, ap, subst, arith}
+use Rattle.std.proofs.Common.{◌≡◌, ◌∙◌, ◌⊎◌, ◌↔◌, inl, inr, ℕ, suc, ◌+◌, ◌<◌, Bool, true, false, cond, List, [], ◌∷◌}
+use Rattle.std.proofs.Common.{◌++◌, drop, length, Option, Some, None, Contains, refl, sym, ap, subst, arith}
 use Rattle.std.proofs.Common.{IsTrue, count_by, is_some}
 use Rattle.std.specs.BTreeMap as tree
 use Rattle.std.specs.FinMap as map
@@ -11,6 +11,10 @@ use Rattle.std.specs.Ordering.{MatchOrdering, eq_by_cmp, is_eq, nat_cmp, orderin
 use Rattle.std.specs.Cmp.{ranks}
 use Rattle.std.specs.declared.cmp.Ordering.{Ordering}
 use Rattle.std.specs.declared.cmp.Ordering.TheVariants.{Less, Equal, Greater}
+use Rattle.std.specs.Prelude.{slice_get}
+use Rattle.std.proofs.lemmas.List.{drop_more, length-map}
+use Rattle.std.proofs.lemmas.Option.{get_or_from_slice_get, slice_get_within}
+use Rattle.std.proofs.lemmas.List.Elements.{Contains-append_left}
 use Rattle.std.proofs.lemmas.Map.Keys.{sorted_head, sorted_tail}
 use Rattle.std.proofs.lemmas.Map.Views.{btree_map_get_iff}
 use Rattle.gz_names.specs.Zones.{HasZone, zones_in}
@@ -30,16 +34,20 @@ use Rattle.colour_defs.proofs.Names.{eq_name-is, eq_name-refl}
 use Rattle.colour_defs.proofs.ZoneSets.{zones_in-ascending, zones_in-has}
 use Rattle.plain_graph.specs.Indexed.{order_of}
 use Rattle.plain_graph.proofs.Indexes.{order_itself, order_ties}
+use Rattle.judge.specs.Arenas.{AreSameArenas, owners_in}
 use Rattle.judge.specs.Cells.{Cells}
-use Rattle.judge.specs.Compaction.{AreLying, GoTo, Lies, Packs, free_in}
-use Rattle.judge.specs.Places.{Lying, place_order}
+use Rattle.judge.specs.Compaction.{AreLying, AreSorted, GoTo, Lies, MayGo, Packs, free_in}
+use Rattle.judge.specs.Places.{AreLaid, IsEmpty, Lying, place_order}
 use Rattle.judge.specs.Replies.{AreMade, IsRefusal}
+use Rattle.judge.specs.Slots.{owner_of}
 use Rattle.judge.specs.Stages.{Shown, Stage}
+use Rattle.judge.specs.declared.arenas.Arenas.{Arenas}
 use Rattle.judge.proofs.Determined.{determined, never_before}
 use Rattle.judge.proofs.FirstTally.{same_keys}
-use Rattle.judge.proofs.Freed.{AreSorted, Ascend, ascend_apart, ascend_first, in_from, in_has, in_sorted}
-use Rattle.judge.proofs.Freed.{numbers_ascend}
+use Rattle.judge.proofs.Freed.{Ascend, ascend_apart, ascend_first, in_from, in_has, in_sorted}
+use Rattle.judge.proofs.Freed.{numbers_ascend, numbers_below}
 use Rattle.judge.proofs.Lying.{places_exact, places_total}
+use Rattle.judge.proofs.Owners.{same_length}
 use Rattle.judge.proofs.Tallies.{same_test}
 
 less_of : (a b : ℕ) → nat_cmp a b ≡ Less → a < b
@@ -411,3 +419,75 @@ packs_of g zone old new kept given_up movers is = record {
       (compacts g zone old new kept given_up movers is w lies);
   new_is = is.new_is;
 }
+
+-- the cells of the arenas that are given up may go to the free slots of those that are kept
+pub record IsSplit (a : Arenas) (cells : Cells) (kept given_up : List ℕ) (movers stayers : Lying) : Type 0 where
+  pub zones : List ℕ
+  pub split : kept ++ given_up ≡ arenas_from 0 (owners_in a) zones
+  pub laid : AreLaid cells a.lying
+  pub movers_up : tree.IsOrdered place_order movers
+  pub movers_are : AreLying given_up cells movers
+  pub stayers_are : AreLying kept cells stayers
+
+pub may_go : (a : Arenas) (cells : Cells) (kept given_up : List ℕ) (movers stayers : Lying)
+    → IsSplit a cells kept given_up movers stayers → MayGo cells a movers.entries (free_in stayers kept)
+may_go a cells kept given_up movers stayers is = record {
+  there = λ p x c.
+      ((is.movers_are p x).0 ((btree_map_get_iff places_total places_exact movers is.movers_up p x).1 c)).0;
+  ordered = is.movers_up;
+  free = λ q c. (let h = in_has stayers kept q c in (
+    made q h.of,
+    h.below,
+    none q h.of h.free (tree.get place_order a.lying q) refl,
+  ));
+  sorted = in_sorted stayers 0 kept
+      (ascend_first 0 kept given_up (subst (Ascend 0) (sym is.split) (numbers_ascend 0 (owners_in a) is.zones)));
+}
+  where
+    made : (q : Place) → Contains kept q.0 → q.0 < length a.arenas.items
+    made q c =
+        let below = numbers_below 0 (owners_in a) is.zones q.0
+        (subst (λ ns. Contains ns q.0) is.split (Contains-append_left kept given_up q.0 c)) in
+        omega (arith, below, length-map a.arenas.items owner_of)
+
+    none : (q : Place) → Contains kept q.0 → tree.get place_order stayers q ≡ None → (o : Option Name)
+        → tree.get place_order a.lying q ≡ o → IsEmpty a.lying q
+    none q of free None e = e
+    none q of free (Some x) e = absurd (is.laid.back x q e (λ at.
+        let stays = (is.stayers_are q x).1 (at, of) in cc (stays, free)))
+
+-- a cell has gone to a place
+pub record HasGone (cells new : Cells) (a b : Arenas) (e : Place × Name) (p : Place) : Type 0 where
+  pub updates : tree.Updates order_of cells new e.1 (Some p)
+  pub arenas : AreSameArenas a b
+  pub elsewhere : (q : Place) → (p ≡ q → ⊥) → IsEmpty a.lying q → IsEmpty b.lying q
+
+pub go_on : (cells new : Cells) (a b : Arenas) (e : Place × Name) (es : List (Place × Name)) (p : Place)
+    (ps : List Place) → HasGone cells new a b e p → MayGo cells a (e ∷ es) (p ∷ ps) → MayGo new b es ps
+go_on cells new a b e es p ps gone may = record {
+  there = λ q y c. (let was = may.there q y (contains_tail e es (q, y) c) in
+      gone.updates.2 y (other q y c was (is_eq (order_of e.1 y)) refl) ∙ was);
+  ordered = sorted_tail place_order e.0 (keys_of es) may.ordered;
+  free = λ q c. (let was = may.free q (contains_tail p ps q c) in (
+    subst (λ n. q.0 < n) (same_length a.arenas.items b.arenas.items (sym gone.arenas.owners)) was.0,
+    was.1,
+    gone.elsewhere q (λ same. never_before q (subst (λ s. IsBefore s q) same (may.sorted.0 q c))) was.2,
+  ));
+  sorted = may.sorted.1;
+}
+  where
+    other : (q : Place) (y : Name) → Contains es (q, y) → tree.get order_of cells y ≡ Some q → (t : Bool)
+        → is_eq (order_of e.1 y) ≡ t → t ≡ false
+    other q y c was true same =
+        let first = may.there e.0 e.1 (contains_head e es) in
+        let at : e.0 ≡ q = (let f = sym first ∙ ap (tree.get order_of cells) (order_ties e.1 y same) ∙ was in cc f) in
+        absurd (never_before q (subst (λ r. IsBefore r q) at
+        (before_all e.0 es q y (sorted_head place_order e.0 (keys_of es) may.ordered) c)))
+    other q y c was false o = refl
+
+-- the places from one on
+pub drop_at : (places : List Place) (n : ℕ) (p : Place) → Some p ≡ slice_get places n
+    → drop n places ≡ p ∷ drop (n + 1) places
+drop_at places n p at =
+    drop_more places n p (slice_get_within places n p (sym at))
+    ∙ ap (λ q. q ∷ drop (n + 1) places) (get_or_from_slice_get places n p p (sym at))

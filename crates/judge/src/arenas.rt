@@ -1,5 +1,5 @@
 // Arenas: whose they are, which cells lie in their slots, and which are out for sweeping.
-ghost use Rattle.std.specs.Prelude.{◌≡◌, ◌↔◌, ℕ, [], ◌∷◌, ◌++◌, ◌+◌, ◌<◌, ◌≤◌, List, IfNone, IfOk, IfSome, IsTrue};
+ghost use Rattle.std.specs.Prelude.{◌≡◌, ◌↔◌, ℕ, [], ◌∷◌, ◌++◌, ◌+◌, ◌^◌, ◌<◌, ◌≤◌, List, IfNone, IfOk, IfSome, IsTrue};
 ghost use Rattle.std.specs.Prelude.{Contains, OnErr, OnOk, Some, None, drop, false, get_or, length, reverse, slice_get};
 ghost use Rattle.std.specs.BTreeMap.{IsUnchanged, Updates};
 ghost use Rattle.gz_names.specs.Zones.{zones_in};
@@ -196,18 +196,11 @@ impl Arenas {
         }
     }
 
-    /// Whether a place is in an arena that is made, and no cell lies there.
-    pub fn is_empty(&self, place: Place) -> bool
-        ensures { IsTrue result → (place.0 < length self.now.arenas.items) × (place.1 < 64)
-            × IsEmpty self.now.lying place }
-    {
-        let is_made = (place.arena() as usize) < self.arenas.len() && place.slot() < SLOT_COUNT;
-        is_made && !self.lying.contains_key(&place)
-    }
-
     /// The numbers of the arenas that these zones own.
     pub fn numbers(&self, alloc: Global, zones: ZoneSet) -> Result<Vec<u32>, NoMemory>
-        ensures { IfOk result (λ numbers. numbers.items ≡ arenas_from 0 (owners_in self.now) (zones_in zones)) }
+        ensures numbers { IfOk result (λ numbers. numbers.items
+            ≡ arenas_from 0 (owners_in self.now) (zones_in zones)) }
+        ensures few { IfOk result (λ numbers. length numbers.items < 2 ^ 32) }
     {
         let mut numbers = Vec::new(alloc);
         for number in 0..self.arenas.len() {

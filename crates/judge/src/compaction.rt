@@ -1,5 +1,5 @@
 // Which cells a compaction moves, and where.
-ghost use Rattle.std.specs.Prelude.{◌≡◌, ◌++◌, IfOk, OnOk, count_by};
+ghost use Rattle.std.specs.Prelude.{◌≡◌, ◌++◌, IfOk, OnOk, count_by, slice_get};
 ghost use Rattle.std.specs.BTreeMap as tree;
 ghost use Rattle.std.specs.BTreeMap.{IsOrdered};
 ghost use Rattle.gz_names.specs.Zones.{zones_in};
@@ -7,12 +7,12 @@ ghost use Rattle.colour_defs.specs.Compaction.{FillArenas};
 ghost use Rattle.colour_defs.specs.Graph.{is_in_zones};
 ghost use Rattle.plain_graph.specs.Indexed.{order_of};
 ghost use Rattle.judge.specs.Compaction.{AreLying, Lays, free_in, free_slots};
-ghost use Rattle.judge.specs.Places.{place_order};
+ghost use Rattle.judge.specs.Places.{AreSpread, place_order};
 
 use crate::tally::{Tally, count_cells};
 use gz_names::{Name, NoMemory, Place, SLOT_COUNT, ZoneSet};
 use plain_graph::Graph;
-use std::alloc::{AllocError, Global};
+use std::alloc::Global;
 use std::collections::BTreeMap;
 
 /// What a compaction did.
@@ -45,7 +45,9 @@ pub fn lying_in(
     arenas: &[u32],
     places: &BTreeMap<Name, Place>,
 ) -> Result<BTreeMap<Place, Name>, NoMemory>
-    ensures { IfOk result (AreLying arenas.now places.now) }
+    requires { AreSpread places.now }
+    ensures lying { IfOk result (AreLying arenas.now places.now) }
+    ensures ordered { IfOk result (IsOrdered place_order) }
 {
     let mut lying = BTreeMap::new(alloc);
     for (name, place) in places {
@@ -54,7 +56,7 @@ pub fn lying_in(
     Ok(lying)
 }
 
-// A cell more, if it lies in one of these arenas. No two cells have one place.
+// A cell more, if it lies in one of these arenas.
 fn lay(
     lying: &mut BTreeMap<Place, Name>,
     arenas: &[u32],
@@ -66,10 +68,8 @@ fn lay(
     if !arenas.contains(&place.arena()) {
         return Ok(());
     }
-    match lying.insert(place, name)? {
-        None => Ok(()),
-        Some(_) => Err(AllocError),
-    }
+    lying.insert(place, name)?;
+    Ok(())
 }
 
 /// The slots of these arenas that are not taken, ascending.
@@ -105,4 +105,11 @@ fn push_free(
         free.push(place)?;
     }
     Ok(())
+}
+
+/// The place with this index, if there is one.
+pub fn place_at(places: &[Place], index: usize) -> Option<Place>
+    ensures { result ≡ slice_get places.now index }
+{
+    places.get(index).copied()
 }

@@ -1,7 +1,7 @@
 // Where the present cells lie, by their names and by their places. No two of them lie in one place.
 ghost use Rattle.std.specs.Prelude.{◌≡◌, ◌<◌, None, OnOk, Some, length};
 ghost use Rattle.std.specs.BTreeMap.{Updates, get};
-ghost use Rattle.gz_names.specs.declared.names.Name.{Name as AName};
+ghost use Rattle.gz_names.specs.declared.numbers.Place.{Place as APlace};
 ghost use Rattle.plain_graph.specs.Indexed.{order_of};
 ghost use Rattle.judge.specs.Arenas.{AreSameArenas};
 ghost use Rattle.judge.specs.Places.{AreLaid, IsEmpty};
@@ -45,23 +45,24 @@ pub fn lift(places: &mut BTreeMap<Name, Place>, arenas: &mut Arenas, name: Name)
     }
 }
 
-/// A cell goes to another place, in which none lies.
+/// A cell goes from its place to another one, in which none lies.
 pub fn shift(
     places: &mut BTreeMap<Name, Place>,
     arenas: &mut Arenas,
     name: Name,
+    was: Place,
     place: Place,
 ) -> Result<(), NoMemory>
+    requires at { get order_of places.old name ≡ Some was }
+    requires made { place.0 < length arenas.old.arenas.items }
+    requires below { place.1 < 64 }
+    requires empty { IsEmpty arenas.old.lying place }
     ensures arenas { AreSameArenas arenas.old arenas.new }
     ensures updates { OnOk result (Updates order_of places.old places.new name (Some place)) }
+    ensures elsewhere { OnOk result ((q : APlace) → (place ≡ q → ⊥) → IsEmpty arenas.old.lying q
+        → IsEmpty arenas.new.lying q) }
     ensures laid { AreLaid places.old arenas.old.lying → AreLaid places.new arenas.new.lying }
 {
-    let Some(was) = places.get(&name).copied() else {
-        return Err(AllocError);
-    };
-    if !arenas.is_empty(place) {
-        return Err(AllocError);
-    }
     arenas.occupy(place, name)?;
     places.insert(name, place)?;
     arenas.vacate(was);

@@ -2,7 +2,6 @@
 // collection.
 ghost use Rattle.std.specs.Prelude.{◌≡◌, ◌≢◌, ◌↔◌, ◌<◌, ◌∷◌, ℕ, [], Contains, IfNone, IfOk, IfSome, IsTrue, None};
 ghost use Rattle.std.specs.Prelude.{OnOk, Some, false};
-ghost use Rattle.std.specs.BTreeMap.{IsOrdered};
 ghost use Rattle.gz_names.specs.Zones.{HasZone, zones_in};
 ghost use Rattle.gz_names.specs.declared.zone_sets.ZoneSet.{ZoneSet as AZoneSet};
 ghost use Rattle.colour_defs.specs.Ends.{Lists};
@@ -11,7 +10,7 @@ ghost use Rattle.colour_defs.specs.World.{target_cell};
 ghost use Rattle.judge.specs.Cells.{GivesPlace, GivesPlaces, HasCell, also_woken_in, made_in, named_in, woken_in};
 ghost use Rattle.judge.specs.Cells.{wrapper_in};
 ghost use Rattle.judge.specs.LeftOut.{IsEither};
-ghost use Rattle.judge.specs.Places.{AreLaid, place_order};
+ghost use Rattle.judge.specs.Places.{AreLaid};
 ghost use Rattle.judge.specs.Bounds.{arena_count, tally_of, with_arenas};
 ghost use Rattle.judge.specs.Former.{Takes};
 ghost use Rattle.judge.specs.declared.former.Change.TheVariants as change;
@@ -20,7 +19,7 @@ ghost use Rattle.judge.specs.Walks.{GoesOnFrom, IsBlackBy, left_out_of, walks_of
 
 use crate::arenas::Arenas;
 use crate::collection::Collection;
-use crate::compaction::{Compacted, filled, free_places, lying_in};
+use crate::compaction::{Compacted, filled, free_places, lying_in, place_at};
 use crate::former::{Change, Former, is_in};
 use crate::places::{lay, shift};
 use crate::preparation::{Preparation, target_of};
@@ -91,7 +90,7 @@ pub struct World {
 }
 
 impl World {
-    ghost use Rattle.judge.specs.Compaction.{GoTo, Packs};
+    ghost use Rattle.judge.specs.Compaction.{GoTo, MayGo, Packs};
     ghost use Rattle.judge.specs.Stages.{Blackens, BlackensLeft, BlackensOne, IsDue, IsFirst, IsOver, IsSettled};
     ghost use Rattle.judge.specs.Stages.{IsStarted, LiesIn, Wakes, WakesAny, counted_by, idle, limit_in, preparing};
     ghost use Rattle.judge.specs.Stages.{put_in, shown, stage_of, unfinished_in, woken_tally};
@@ -442,9 +441,6 @@ impl World {
         let free = free_places(self.alloc, kept, &stayers)?;
         self.move_cells(&movers, free.as_slice())?;
         self.arenas.give_up(given_up);
-        if given_up.len() > u32::MAX as usize {
-            return Err(AllocError);
-        }
         Ok(Compacted {
             moved: movers.len() as u64,
             given_up: given_up.len() as u32,
@@ -453,17 +449,17 @@ impl World {
 
     // Each of these cells goes to the next of these places.
     fn move_cells(&mut self, movers: &BTreeMap<Place, Name>, free: &[Place]) -> Result<(), NoMemory>
+        requires { MayGo self.old.places self.old.arenas movers.now.entries free.now }
         ensures same { OnOk result (shown self.new ≡ record (shown self.old) { cells = self.new.places }) }
-        ensures ordered { OnOk result (IsOrdered place_order movers.now) }
         ensures moved { OnOk result (GoTo movers.now.entries free.now self.old.places self.new.places) }
     {
         let mut next = 0;
-        for (_, name) in movers {
-            let Some(place) = free.get(next).copied() else {
+        for (was, name) in movers {
+            let Some(place) = place_at(free, next) else {
                 return Err(AllocError);
             };
             next += 1;
-            shift(&mut self.places, &mut self.arenas, *name, place)?;
+            shift(&mut self.places, &mut self.arenas, *name, *was, place)?;
         }
         Ok(())
     }
