@@ -229,8 +229,8 @@ class Process:
         return time.clock_gettime(self.clock) - before
 
     def memory(self):
-        """Its resident bytes."""
-        return next(1024 * int(line.split()[1]) for line in self.field("status").splitlines() if line[:6] == "VmRSS:")
+        """Its resident bytes, but for those of files, which the system takes away when it likes."""
+        return next(1024 * int(line.split()[1]) for line in self.field("status").splitlines() if line[:8] == "RssAnon:")
 
     def stop(self):
         self.late = True
